@@ -1,0 +1,9 @@
+pub mod Tests
+pub mod Additive
+pub mod PolynomialLaws
+pub mod Identities
+pub mod PairLaws
+pub mod BitLaws
+pub mod Inverses
+pub mod Powers
+pub mod Answered

@@ -1,6 +1,7 @@
 //! The field of 256 elements, worked out by shifts.
 ghost use mathlib.Core.Path.{_≡_};
 ghost use Prim.Native.Nat.{_<_};
+ghost use Rattle.fields.specs.Answers.{inverse};
 ghost use Rattle.fields.specs.Polynomials.{gf256};
 use faults::Fault;
 use faults::FieldCause;
@@ -41,11 +42,10 @@ fn shift_product(x: u16, y: u16) -> u16
     sum
 }
 
-/// `x` to the power 254, which is its inverse where it is not 0.
+/// The inverse of `x`, which is `x` to the power 254.
 fn power_254(x: u16) -> u16
-    requires { ⌜ x < 256 ⌝ }
-    ensures inverse { λ r. ⌜ ((x ≡ 0 → ⊥) → gf256 .product x r ≡ 1) ⌝ }
-    ensures element { λ r. ⌜ r < 256 ⌝ }
+    requires { ⌜ x < 256 ⌝ ∗ ⌜ (x ≡ 0 → ⊥) ⌝ }
+    ensures { λ r. ⌜ r ≡ inverse gf256 x ⌝ }
 {
     let x2 = shift_product(x, x);
     let x3 = shift_product(x2, x);
@@ -58,6 +58,17 @@ fn power_254(x: u16) -> u16
     let x240 = shift_product(x120, x120);
     let x252 = shift_product(x240, x12);
     shift_product(x252, x2)
+}
+
+/// 2 to the power `i`.
+fn power_of_two(i: u16) -> u16
+    ensures { λ r. ⌜ r ≡ gf256 .roll i ⌝ }
+{
+    let mut power = 1;
+    for _k in 0..i {
+        power = doubled(power);
+    }
+    power
 }
 
 pub impl Field for Gf256 as ShiftField {
@@ -92,10 +103,6 @@ pub impl Field for Gf256 as ShiftField {
         if i >= 255 {
             return Err(Fault::field(FieldCause::Roll));
         }
-        let mut power = 1;
-        for _k in 0..i {
-            power = doubled(power);
-        }
-        Ok(power)
+        Ok(power_of_two(i))
     }
 }

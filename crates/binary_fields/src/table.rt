@@ -1,11 +1,11 @@
 //! The fields that multiply by tables of logarithms and powers.
 ghost use mathlib.Core.Path.{_≡_};
 ghost use Prim.Native.Nat.{_<_};
+ghost use Rattle.fields.specs.Answers.{inverse};
 ghost use Rattle.fields.specs.Meaning.{size};
 ghost use Rattle.binary_fields.specs.Tables.{table-meaning, Log-tables};
 use faults::Fault;
 use faults::FieldCause;
-use faults::Layer;
 use fields::Field;
 
 /// A field by the number of its elements.
@@ -19,6 +19,7 @@ pub enum Table {
 
 /// Of each element but 0 the power of 2 that it is, and the powers of 2 for two full turns,
 /// so that the sum of two logarithms is an index.
+#[derive(Clone, Copy)]
 struct Logs {
     logs: &'static [u8],
     powers: &'static [u16],
@@ -35,6 +36,15 @@ const POWERS16: [u16; 30] = [
 ];
 
 impl Table {
+    fn size(self) -> u16
+        ensures { λ r. ⌜ r ≡ size (table-meaning self) ⌝ }
+    {
+        match self {
+            Table::Gf8 => 8,
+            Table::Gf16 => 16,
+        }
+    }
+
     fn tables(self) -> Logs
         ensures { λ r. ⌜ Log-tables (table-meaning self) (now (r .logs)) (now (r .powers)) ⌝ }
     {
@@ -48,6 +58,27 @@ impl Table {
                 powers: &POWERS16,
             },
         }
+    }
+
+    /// The power at the sum of two logarithms.
+    fn log_product(self, x: u16, y: u16) -> u16
+        requires { ⌜ x < size (table-meaning self) ⌝ ∗ ⌜ y < size (table-meaning self) ⌝ }
+        ensures { λ r. ⌜ r ≡ table-meaning self .product x y ⌝ }
+    {
+        if x == 0 || y == 0 {
+            return 0;
+        }
+        let Logs { logs, powers } = self.tables();
+        powers[logs[x as usize] as usize + logs[y as usize] as usize]
+    }
+
+    /// The power at what a logarithm lacks to a full turn.
+    fn log_inverse(self, x: u16) -> u16
+        requires { ⌜ x < size (table-meaning self) ⌝ ∗ ⌜ (x ≡ 0 → ⊥) ⌝ }
+        ensures { λ r. ⌜ r ≡ inverse (table-meaning self) x ⌝ }
+    {
+        let Logs { logs, powers } = self.tables();
+        powers[logs.len() - 1 - logs[x as usize] as usize]
     }
 }
 
@@ -69,35 +100,26 @@ pub impl Field for Table as TableField {
     }
 
     fn product(&self, x: u16, y: u16) -> Result<u16, Fault> {
-        let Logs { logs, powers } = self.tables();
-        let (x, y) = (x as usize, y as usize);
-        if x >= logs.len() || y >= logs.len() {
+        if x >= self.size() || y >= self.size() {
             return Err(Fault::field(FieldCause::Operand));
         }
-        if x == 0 || y == 0 {
-            return Ok(0);
-        }
-        Ok(powers[logs[x] as usize + logs[y] as usize])
+        Ok(self.log_product(x, y))
     }
 
     fn inverse(&self, x: u16) -> Result<u16, Fault> {
-        let Logs { logs, powers } = self.tables();
-        let x = x as usize;
-        if x >= logs.len() {
+        if x >= self.size() {
             return Err(Fault::field(FieldCause::Operand));
         }
         if x == 0 {
             return Err(Fault::field(FieldCause::InverseOfZero));
         }
-        Ok(powers[logs.len() - 1 - logs[x] as usize])
+        Ok(self.log_inverse(x))
     }
 
     fn roll(&self, i: u16) -> Result<u16, Fault> {
-        let Logs { logs, powers } = self.tables();
-        let i = i as usize;
-        if i >= logs.len() - 1 {
+        if i >= self.size() - 1 {
             return Err(Fault::field(FieldCause::Roll));
         }
-        Ok(powers[i])
+        Ok(self.tables().powers[i as usize])
     }
 }

@@ -6,7 +6,7 @@ use native.Mathlib.Omega.{arith}
 use lib.Bits.{bitXor}
 use lib.Dec.{lit<, lit≤}
 use Rattle.fields.specs.Meaning.{Field-laws}
-use Rattle.fields.specs.Polynomials.{bit}
+use Rattle.fields.specs.Polynomials.{gf2}
 use Rattle.fields.proofs.Additive.{times-digit-additive}
 
 at-both : (P : ℕ → Type 0) → P 0 → P 1 → (x : ℕ) → x < 2 → P x
@@ -14,7 +14,7 @@ at-both P p q zero h = p
 at-both P p q (suc zero) h = q
 at-both P p q (suc (suc x)) h = absurd (omega arith)
 
-pub bit-laws : Field-laws bit
+pub bit-laws : Field-laws gf2
 bit-laws = record {
   some-bits = lit≤ tt;
   few-bits = lit≤ tt;

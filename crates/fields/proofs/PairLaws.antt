@@ -13,6 +13,8 @@ use Rattle.fields.specs.Meaning.{Field-meaning, Field-laws, size}
 use Rattle.fields.specs.Pairs.{upper, lower, pair-product, doubled, pair, norm}
 use Rattle.fields.proofs.Identities.{Expr, var, nought, one, sum, prod, eval, solve, eval-below, Bounded, one-below, zero-below, times-zero, zero-times, times-one}
 
+-- ---- the coefficients of up to three pairs, A B, D E and G H, and c, as variables of expressions
+
 abbrev pub A : Expr
 A = var 0
 
@@ -34,6 +36,7 @@ G = var 5
 abbrev H : Expr
 H = var 6
 
+-- the coefficients of a product
 abbrev pub U : Expr → Expr → Expr → Expr → Expr
 U = upper sum prod
 
@@ -45,29 +48,31 @@ abbrev pub N : Expr
 N = norm sum prod C A B
 
 module _ (f : Field-meaning) (L : Field-laws f) where
-  pub up : (x : ℕ) → x < 2 ^ (f .width + f .width) → x / size f < size f
+  -- the coefficients of a pair are elements
+  pub up : (x : ℕ) → x < size (doubled f) → x / size f < size f
   up x h = shr-lt (f .width) (f .width) h
 
   pub down : (x : ℕ) → x % size f < size f
   down x = mod-lt x (pow-pos (f .width))
 
-  abbrev pub two : ℕ → List ℕ
-  two x = x / size f ∷ x % size f ∷ f .c ∷ []
+  -- what the variables stand for at one, two and three pairs
+  abbrev pub one-pair : ℕ → List ℕ
+  one-pair x = x / size f ∷ x % size f ∷ f .c ∷ []
 
-  abbrev pub four : ℕ → ℕ → List ℕ
-  four x y = x / size f ∷ x % size f ∷ f .c ∷ y / size f ∷ y % size f ∷ []
+  abbrev pub two-pairs : ℕ → ℕ → List ℕ
+  two-pairs x y = x / size f ∷ x % size f ∷ f .c ∷ y / size f ∷ y % size f ∷ []
 
-  abbrev six : ℕ → ℕ → ℕ → List ℕ
-  six x y z = x / size f ∷ x % size f ∷ f .c ∷ y / size f ∷ y % size f ∷ z / size f ∷ z % size f ∷ []
+  abbrev three-pairs : ℕ → ℕ → ℕ → List ℕ
+  three-pairs x y z = x / size f ∷ x % size f ∷ f .c ∷ y / size f ∷ y % size f ∷ z / size f ∷ z % size f ∷ []
 
-  pub of-two : (x : ℕ) → x < 2 ^ (f .width + f .width) → Bounded f (two x)
-  of-two x hx = (up x hx, (down x, (L .c-below, tt)))
+  pub bounded-one-pair : (x : ℕ) → x < size (doubled f) → Bounded f (one-pair x)
+  bounded-one-pair x hx = (up x hx, (down x, (L .c-below, tt)))
 
-  pub of-four : (x y : ℕ) → x < 2 ^ (f .width + f .width) → y < 2 ^ (f .width + f .width) → Bounded f (four x y)
-  of-four x y hx hy = (up x hx, (down x, (L .c-below, (up y hy, (down y, tt)))))
+  pub bounded-two-pairs : (x y : ℕ) → x < size (doubled f) → y < size (doubled f) → Bounded f (two-pairs x y)
+  bounded-two-pairs x y hx hy = (up x hx, (down x, (L .c-below, (up y hy, (down y, tt)))))
 
-  of-six : (x y z : ℕ) → x < 2 ^ (f .width + f .width) → y < 2 ^ (f .width + f .width) → z < 2 ^ (f .width + f .width) → Bounded f (six x y z)
-  of-six x y z hx hy hz = (up x hx, (down x, (L .c-below, (up y hy, (down y, (up z hz, (down z, tt)))))))
+  bounded-three-pairs : (x y z : ℕ) → x < size (doubled f) → y < size (doubled f) → z < size (doubled f) → Bounded f (three-pairs x y z)
+  bounded-three-pairs x y z hx hy hz = (up x hx, (down x, (L .c-below, (up y hy, (down y, (up z hz, (down z, tt)))))))
 
   abbrev pub join : ℕ → ℕ → ℕ
   join a b = a * size f + b
@@ -76,64 +81,64 @@ module _ (f : Field-meaning) (L : Field-laws f) where
   abbrev of-pairs : ℕ → ℕ → ℕ → ℕ → ℕ
   of-pairs a b d e = join (upper bitXor (f .product) a b d e) (lower bitXor (f .product) (f .c) a b d e)
 
-  product-up : (x y : ℕ) → x < 2 ^ (f .width + f .width) → y < 2 ^ (f .width + f .width)
+  product-up : (x y : ℕ) → x < size (doubled f) → y < size (doubled f)
       → pair-product f x y / size f ≡ upper bitXor (f .product) (x / size f) (x % size f) (y / size f) (y % size f)
   unfolding pair-product
   product-up x y hx hy =
       high (upper bitXor (f .product) (x / size f) (x % size f) (y / size f) (y % size f)) (f .width)
-      (eval-below f L (four x y) (of-four x y hx hy) (W A B D E))
+      (eval-below f L (two-pairs x y) (bounded-two-pairs x y hx hy) (W A B D E))
 
-  product-down : (x y : ℕ) → x < 2 ^ (f .width + f .width) → y < 2 ^ (f .width + f .width)
+  product-down : (x y : ℕ) → x < size (doubled f) → y < size (doubled f)
       → pair-product f x y % size f ≡ lower bitXor (f .product) (f .c) (x / size f) (x % size f) (y / size f) (y % size f)
   unfolding pair-product
   product-down x y hx hy =
       low (upper bitXor (f .product) (x / size f) (x % size f) (y / size f) (y % size f)) (f .width)
-      (eval-below f L (four x y) (of-four x y hx hy) (W A B D E))
+      (eval-below f L (two-pairs x y) (bounded-two-pairs x y hx hy) (W A B D E))
 
-  join-below : (a b : ℕ) → a < size f → b < size f → join a b < 2 ^ (f .width + f .width)
+  join-below : (a b : ℕ) → a < size f → b < size f → join a b < size (doubled f)
   join-below a b ha hb = subst (λ (n : ℕ). join a b < n) (sym (pow-add 2 (f .width) (f .width))) (digits-lt ha hb)
 
-  closed : (x y : ℕ) → x < 2 ^ (f .width + f .width) → y < 2 ^ (f .width + f .width) → pair-product f x y < 2 ^ (f .width + f .width)
+  closed : (x y : ℕ) → x < size (doubled f) → y < size (doubled f) → pair-product f x y < size (doubled f)
   unfolding pair-product
   closed x y hx hy =
-      join-below _ _ (eval-below f L (four x y) (of-four x y hx hy) (U A B D E)) (eval-below f L (four x y) (of-four x y hx hy) (W A B D E))
+      join-below _ _ (eval-below f L (two-pairs x y) (bounded-two-pairs x y hx hy) (U A B D E)) (eval-below f L (two-pairs x y) (bounded-two-pairs x y hx hy) (W A B D E))
 
-  commutes : (x y : ℕ) → x < 2 ^ (f .width + f .width) → y < 2 ^ (f .width + f .width) → pair-product f x y ≡ pair-product f y x
+  commutes : (x y : ℕ) → x < size (doubled f) → y < size (doubled f) → pair-product f x y ≡ pair-product f y x
   unfolding pair-product
   commutes x y hx hy =
       ap₂ join
-      (solve f L (four x y) (of-four x y hx hy) (U A B D E) (U D E A B) refl)
-      (solve f L (four x y) (of-four x y hx hy) (W A B D E) (W D E A B) refl)
+      (solve f L (two-pairs x y) (bounded-two-pairs x y hx hy) (U A B D E) (U D E A B) refl)
+      (solve f L (two-pairs x y) (bounded-two-pairs x y hx hy) (W A B D E) (W D E A B) refl)
 
-  associates : (x y z : ℕ) → x < 2 ^ (f .width + f .width) → y < 2 ^ (f .width + f .width) → z < 2 ^ (f .width + f .width)
+  associates : (x y z : ℕ) → x < size (doubled f) → y < size (doubled f) → z < size (doubled f)
       → pair-product f (pair-product f x y) z ≡ pair-product f x (pair-product f y z)
   unfolding pair-product
   associates x y z hx hy hz =
       ap₂ (λ (s t : ℕ). of-pairs s t (z / size f) (z % size f)) (product-up x y hx hy) (product-down x y hx hy)
       ∙ ap₂ join
-      (solve f L (six x y z) (of-six x y z hx hy hz) (U (U A B D E) (W A B D E) G H) (U A B (U D E G H) (W D E G H)) refl)
-      (solve f L (six x y z) (of-six x y z hx hy hz) (W (U A B D E) (W A B D E) G H) (W A B (U D E G H) (W D E G H)) refl)
+      (solve f L (three-pairs x y z) (bounded-three-pairs x y z hx hy hz) (U (U A B D E) (W A B D E) G H) (U A B (U D E G H) (W D E G H)) refl)
+      (solve f L (three-pairs x y z) (bounded-three-pairs x y z hx hy hz) (W (U A B D E) (W A B D E) G H) (W A B (U D E G H) (W D E G H)) refl)
       ∙ sym (ap₂ (λ (s t : ℕ). of-pairs (x / size f) (x % size f) s t) (product-up y z hy hz) (product-down y z hy hz))
 
-  distributes : (x y z : ℕ) → x < 2 ^ (f .width + f .width) → y < 2 ^ (f .width + f .width) → z < 2 ^ (f .width + f .width)
+  distributes : (x y z : ℕ) → x < size (doubled f) → y < size (doubled f) → z < size (doubled f)
       → pair-product f x (bitXor y z) ≡ bitXor (pair-product f x y) (pair-product f x z)
   unfolding pair-product
   distributes x y z hx hy hz =
       ap₂ (λ (s t : ℕ). of-pairs (x / size f) (x % size f) s t) (xor-shr y z (f .width)) (xor-mod y z (f .width))
       ∙ ap₂ join
-      (solve f L (six x y z) (of-six x y z hx hy hz) (U A B (sum D G) (sum E H)) (sum (U A B D E) (U A B G H)) refl)
-      (solve f L (six x y z) (of-six x y z hx hy hz) (W A B (sum D G) (sum E H)) (sum (W A B D E) (W A B G H)) refl)
+      (solve f L (three-pairs x y z) (bounded-three-pairs x y z hx hy hz) (U A B (sum D G) (sum E H)) (sum (U A B D E) (U A B G H)) refl)
+      (solve f L (three-pairs x y z) (bounded-three-pairs x y z hx hy hz) (W A B (sum D G) (sum E H)) (sum (W A B D E) (W A B G H)) refl)
       ∙ sym (xor-block (f .width)
-      (eval f (six x y z) (U A B D E)) (eval f (six x y z) (U A B G H)) (eval f (six x y z) (W A B D E)) (eval f (six x y z) (W A B G H))
-      (eval-below f L (six x y z) (of-six x y z hx hy hz) (W A B D E)) (eval-below f L (six x y z) (of-six x y z hx hy hz) (W A B G H)))
+      (eval f (three-pairs x y z) (U A B D E)) (eval f (three-pairs x y z) (U A B G H)) (eval f (three-pairs x y z) (W A B D E)) (eval f (three-pairs x y z) (W A B G H))
+      (eval-below f L (three-pairs x y z) (bounded-three-pairs x y z hx hy hz) (W A B D E)) (eval-below f L (three-pairs x y z) (bounded-three-pairs x y z hx hy hz) (W A B G H)))
 
-  neutral : (x : ℕ) → x < 2 ^ (f .width + f .width) → pair-product f 1 x ≡ x
+  neutral : (x : ℕ) → x < size (doubled f) → pair-product f 1 x ≡ x
   unfolding pair-product
   neutral x hx =
       ap₂ (λ (s t : ℕ). of-pairs s t (x / size f) (x % size f)) (div-eq-of-lt (one-below f L)) (mod-eq-of-lt (one-below f L))
       ∙ ap₂ join
-      (solve f L (two x) (of-two x hx) (U nought one A B) A refl)
-      (solve f L (two x) (of-two x hx) (W nought one A B) B refl)
+      (solve f L (one-pair x) (bounded-one-pair x hx) (U nought one A B) A refl)
+      (solve f L (one-pair x) (bounded-one-pair x hx) (W nought one A B) B refl)
       ∙ split x (f .width)
 
   -- ---- inverses, by the norm
@@ -165,14 +170,14 @@ module _ (f : Field-meaning) (L : Field-laws f) where
       ∙ ap (f .product (f .product i i)) e
       ∙ times-zero f L (f .product i i) (L .closed i i hi hi)))
 
-  pub nonzero-norm : (x : ℕ) → x < 2 ^ (f .width + f .width) → (x ≡ 0 → ⊥) → eval f (two x) N ≡ 0 → ⊥
+  pub nonzero-norm : (x : ℕ) → x < size (doubled f) → (x ≡ 0 → ⊥) → eval f (one-pair x) N ≡ 0 → ⊥
   nonzero-norm x hx ne =
       norm-zero (x / size f) (x % size f) (up x hx) (down x)
       (λ p q. ne (sym (split x (f .width)) ∙ ap₂ join p q ∙ ap (λ (t : ℕ). t + 0) (zero-mul (size f))))
 
   -- the inverse, from the inverse n of the norm
-  pub pair-inverse : (x n : ℕ) → x < 2 ^ (f .width + f .width) → n < size f → f .product (eval f (two x) N) n ≡ 1
-      → (join (f .product (x / size f) n) (f .product (bitXor (x / size f) (x % size f)) n) < 2 ^ (f .width + f .width))
+  pub pair-inverse : (x n : ℕ) → x < size (doubled f) → n < size f → f .product (eval f (one-pair x) N) n ≡ 1
+      → (join (f .product (x / size f) n) (f .product (bitXor (x / size f) (x % size f)) n) < size (doubled f))
       × (pair-product f x (join (f .product (x / size f) n) (f .product (bitXor (x / size f) (x % size f)) n)) ≡ 1)
   unfolding pair-product
   pair-inverse x n hx hn u =
@@ -192,17 +197,17 @@ module _ (f : Field-meaning) (L : Field-laws f) where
             ∙ ap (λ (t : ℕ). t + 1) (zero-mul (size f)),
       )
 
-  inverts : (x : ℕ) → x < 2 ^ (f .width + f .width) → (x ≡ 0 → ⊥)
-      → (y : ℕ) × (y < 2 ^ (f .width + f .width)) × (pair-product f x y ≡ 1)
+  inverts : (x : ℕ) → x < size (doubled f) → (x ≡ 0 → ⊥)
+      → (y : ℕ) × (y < size (doubled f)) × (pair-product f x y ≡ 1)
   inverts x hx ne =
-      let (n, hn, u) = L .inverts (eval f (two x) N) (eval-below f L (two x) (of-two x hx) N) (nonzero-norm x hx ne) in
+      let (n, hn, u) = L .inverts (eval f (one-pair x) N) (eval-below f L (one-pair x) (bounded-one-pair x hx) N) (nonzero-norm x hx ne) in
       let r = pair-inverse x n hx hn u in
       (join (f .product (x / size f) n) (f .product (bitXor (x / size f) (x % size f)) n), r .0, r .1)
 
-  rootless : (z : ℕ) → z < 2 ^ (f .width + f .width) → bitXor (pair-product f z z) z ≡ f .c * size f → ⊥
+  rootless : (z : ℕ) → z < size (doubled f) → bitXor (pair-product f z z) z ≡ f .c * size f → ⊥
   rootless z hz e =
       L .c-rootless (z / size f) (up z hz)
-      (solve f L (two z) (of-two z hz) (sum (prod A A) A) (sum (U A B A B) A) refl
+      (solve f L (one-pair z) (bounded-one-pair z hz) (sum (prod A A) A) (sum (U A B A B) A) refl
       ∙ ap (λ (t : ℕ). bitXor t (z / size f)) (sym (product-up z z hz hz))
       ∙ sym (xor-shr (pair-product f z z) z (f .width))
       ∙ ap (λ (t : ℕ). t / size f) e

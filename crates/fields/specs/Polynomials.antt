@@ -44,5 +44,5 @@ abbrev pub gf256 : Field-meaning
 gf256 = polynomials 8 0b100011101 32
 
 -- the numbers 0 and 1
-abbrev pub bit : Field-meaning
-bit = record { width = 1; product = λ x y. x * y; roll = λ i. 1; c = 1 }
+abbrev pub gf2 : Field-meaning
+gf2 = record { width = 1; product = λ x y. x * y; roll = λ i. 1; c = 1 }

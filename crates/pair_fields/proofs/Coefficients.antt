@@ -1,24 +1,22 @@
 -- The product and the inverse of pairs as the code works them out, from the answers of the field below.
 use mathlib.Core.Path.{_≡_, refl, sym, ap, ap₂, subst, _∙_}
-use mathlib.Core.Bool.{Bool, true, false, cond}
 use mathlib.Core.List.{List, [], _∷_}
 use Prim.Native.Nat.{ℕ, zero, suc, _+_, _-_, _*_, _/_, _%_, _^_, _<_, _≤_}
 use native.Mathlib.Nat.{div-lt-iff-lt-mul, one-mul, mod-eq-of-lt}
 use native.Mathlib.Omega.{arith}
 use lib.Bits.{bitAnd, bitOr, bitXor, and-mask, or-shifted, xor-lt}
-use lib.Dec.{T, leb, le→leb}
 use lib.Pow.{pow-pos, pow-add, pow-lt, shl-exact}
 use Rattle.std.specs.declared.result.Result.the-variants.{Ok, Err}
 use Rattle.faults.specs.declared.Fault.{Fault}
 use Rattle.faults.specs.Table.{no-element}
 use Rattle.fields.specs.Meaning.{Field-meaning, Field-laws, size}
 use Rattle.fields.specs.Answers.{product-answer, inverse, inverse-answer}
-use Rattle.fields.specs.Pairs.{upper, lower, pair-product, doubled, pair, norm}
+use Rattle.fields.specs.Pairs.{upper, lower, pair-product, doubled, norm}
 use Rattle.fields.proofs.Answered.{
   both-granted, both-refused, both-refusal, both-answered, product-answered, inverse-answered, inverse-granted, inverse-refused, inverse-of-zero, no-element-refusal,
 }
 use Rattle.fields.proofs.Identities.{sum, prod, eval, solve, eval-below, Bounded, zero-times}
-use Rattle.fields.proofs.PairLaws.{up, down, two, of-two, four, of-four, U, W, N, A, B, C, D, E, doubled-laws, nonzero-norm, pair-inverse}
+use Rattle.fields.proofs.PairLaws.{up, down, one-pair, bounded-one-pair, U, W, N, A, B, C, D, E, doubled-laws, nonzero-norm, pair-inverse}
 use Rattle.pair_fields.specs.Pairs.{norm-answer}
 
 module _ (f : Field-meaning) (L : Field-laws f) where
@@ -92,13 +90,6 @@ module _ (f : Field-meaning) (L : Field-laws f) where
         ap (λ (k : ℕ). bitOr ((s * 2 ^ k) % 2 ^ 16) t) ew
         ∙ ap (λ (n : ℕ). bitOr n t) (shl-exact (f .width) (f .width) 16 hs (omega arith)) ∙ or-shifted s (f .width) t ht
 
-    narrow : (P : Field-meaning → Type 0) → P (doubled f) → P (pair f)
-    narrow P p = go (leb (f .width) 4) (le→leb (f .width) 4 h)
-      where
-        go : (b : Bool) → T b → P (cond b (doubled f) f)
-        go true t = p
-        go false t = absurd t
-
     pair-below : (x a b : ℕ) → Halves x a b → a < size f → x < size (doubled f)
     pair-below x a b e ha =
         subst (λ (n : ℕ). x < n) (sym (pow-add 2 (f .width) (f .width)))
@@ -111,15 +102,14 @@ module _ (f : Field-meaning) (L : Field-laws f) where
     low-below x a b e = subst (λ (n : ℕ). n < size f) (sym (e .low)) (down f L x)
 
     module _ (x y a b d e : ℕ) (X : Halves x a b) (Y : Halves y d e) where
-      pub product-refused : (fault : Fault) → Err fault ≡ product-answer f a d → Err fault ≡ product-answer (pair f) x y
+      pub product-refused : (fault : Fault) → Err fault ≡ product-answer f a d → Err fault ≡ product-answer (doubled f) x y
       product-refused fault p =
           let (q, no′) = both-refused f a d (f .product a d) fault p in
-          narrow (λ m. Err fault ≡ product-answer m x y)
-          (ap Err q ∙ both-refusal (doubled f) x y (pair-product f x y) (λ hx hy. no′ (high-below x a b X hx) (high-below y d e Y hy)))
+          ap Err q ∙ both-refusal (doubled f) x y (pair-product f x y) (λ hx hy. no′ (high-below x a b X hx) (high-below y d e Y hy))
 
       pub product-stands : (ad be all c adc : ℕ) → Ok ad ≡ product-answer f a d → Ok be ≡ product-answer f b e → Ok all ≡ product-answer f (bitXor a b) (bitXor d e)
           → c ≡ f .c → Ok adc ≡ product-answer f ad c
-          → Ok (bitOr ((bitXor all be * 2 ^ w) % 2 ^ 16) (bitXor be adc)) ≡ product-answer (pair f) x y
+          → Ok (bitOr ((bitXor all be * 2 ^ w) % 2 ^ 16) (bitXor be adc)) ≡ product-answer (doubled f) x y
       unfolding pair-product
       product-stands ad be all c adc p1 p2 p3 ec p4 =
           let (ha, hd, e1) = both-granted f a d (f .product a d) ad p1 in
@@ -130,42 +120,40 @@ module _ (f : Field-meaning) (L : Field-laws f) where
           let bs : Bounded f vs = (ha, (hb, (L .c-below, (hd, (he, tt))))) in
           let high : bitXor all be ≡ eval f vs (U A B D E) = ap₂ bitXor e3 e2 ∙ solve f L vs bs (sum (prod (sum A B) (sum D E)) (prod B E)) (U A B D E) refl in
           let low : bitXor be adc ≡ eval f vs (W A B D E) = ap₂ bitXor e2 (e4 ∙ ap₂ (f .product) e1 ec) in
-          narrow (λ m. Ok (bitOr ((bitXor all be * 2 ^ w) % 2 ^ 16) (bitXor be adc)) ≡ product-answer m x y)
-          (product-answered (doubled f) x y _ (pair-below x a b X ha) (pair-below y d e Y hd)
+          product-answered (doubled f) x y _ (pair-below x a b X ha) (pair-below y d e Y hd)
           (ap₂ (λ (s t : ℕ). bitOr ((s * 2 ^ w) % 2 ^ 16) t) high low
           ∙ joined (eval f vs (U A B D E)) (eval f vs (W A B D E)) (eval-below f L vs bs (U A B D E)) (eval-below f L vs bs (W A B D E))
-          ∙ ap₂ (λ (s t : ℕ). of-halves s t d e) (X .high) (X .low) ∙ ap₂ (λ (s t : ℕ). of-halves (x / size f) (x % size f) s t) (Y .high) (Y .low)))
+          ∙ ap₂ (λ (s t : ℕ). of-halves s t d e) (X .high) (X .low) ∙ ap₂ (λ (s t : ℕ). of-halves (x / size f) (x % size f) s t) (Y .high) (Y .low))
         where
           of-halves : ℕ → ℕ → ℕ → ℕ → ℕ
           of-halves a b d e = upper bitXor (f .product) a b d e * size f + lower bitXor (f .product) (f .c) a b d e
 
     module _ (x a b : ℕ) (X : Halves x a b) where
-      pub inverse-norm-refused : (fault : Fault) → Err fault ≡ norm-answer f a b → Err fault ≡ inverse-answer (pair f) x
+      pub inverse-norm-refused : (fault : Fault) → Err fault ≡ norm-answer f a b → Err fault ≡ inverse-answer (doubled f) x
       inverse-norm-refused fault p =
           let (q, no′) = both-refused f a b (norm bitXor (f .product) (f .c) a b) fault p in
-          narrow (λ m. Err fault ≡ inverse-answer m x)
-          (ap Err q ∙ no-element-refusal (doubled f) x _ (λ hx. no′ (high-below x a b X hx) (low-below x a b X)))
+          ap Err q ∙ no-element-refusal (doubled f) x _ (λ hx. no′ (high-below x a b X hx) (low-below x a b X))
 
-      norm-is : (n : ℕ) → Ok n ≡ norm-answer f a b → (a < size f) × (b < size f) × (n ≡ eval f (two f L x) N)
+      norm-is : (n : ℕ) → Ok n ≡ norm-answer f a b → (a < size f) × (b < size f) × (n ≡ eval f (one-pair f L x) N)
       norm-is n p =
           let (ha, hb, e) = both-granted f a b (norm bitXor (f .product) (f .c) a b) n p in
           (ha, hb, e ∙ ap₂ (norm bitXor (f .product) (f .c)) (X .high) (X .low))
 
-      pub inverse-refused-below : (n : ℕ) (fault : Fault) → Ok n ≡ norm-answer f a b → Err fault ≡ inverse-answer f n → Err fault ≡ inverse-answer (pair f) x
+      pub inverse-refused-below : (n : ℕ) (fault : Fault) → Ok n ≡ norm-answer f a b → Err fault ≡ inverse-answer f n → Err fault ≡ inverse-answer (doubled f) x
       inverse-refused-below n fault p q =
           let (ha, hb, e) = norm-is n p in
           let hx : x < size (doubled f) = pair-below x a b X ha in
-          let hn : n < size f = subst (λ (t : ℕ). t < size f) (sym e) (eval-below f L (two f L x) (of-two f L x hx) N) in
+          let hn : n < size f = subst (λ (t : ℕ). t < size f) (sym e) (eval-below f L (one-pair f L x) (bounded-one-pair f L x hx) N) in
           let (u, z) = inverse-refused f n fault hn q in
           let x-zero : x ≡ 0 = decided x (λ ne. nonzero-norm f L x hx ne (sym e ∙ z)) in
-          narrow (λ m. Err fault ≡ inverse-answer m x) (ap Err u ∙ inverse-of-zero (doubled f) x hx x-zero)
+          ap Err u ∙ inverse-of-zero (doubled f) x hx x-zero
         where
           decided : (x : ℕ) → ((x ≡ 0 → ⊥) → ⊥) → x ≡ 0
           decided zero k = refl
           decided (suc x) k = absurd (k (λ e. omega (arith, e)))
 
       pub inverse-stands : (n i s t : ℕ) → Ok n ≡ norm-answer f a b → Ok i ≡ inverse-answer f n → Ok s ≡ product-answer f a i → Ok t ≡ product-answer f (bitXor a b) i
-          → Ok (bitOr ((s * 2 ^ w) % 2 ^ 16) t) ≡ inverse-answer (pair f) x
+          → Ok (bitOr ((s * 2 ^ w) % 2 ^ 16) t) ≡ inverse-answer (doubled f) x
       inverse-stands n i s t p q ps pt =
           let (ha, hb, e) = norm-is n p in
           let (_, _, hi, u) = inverse-granted f L n i q in
@@ -181,7 +169,6 @@ module _ (f : Field-meaning) (L : Field-laws f) where
           ∙ ap₂ (λ (k l : ℕ). f .product k i * size f + f .product (bitXor k l) i) (X .high) (X .low) in
           let below : bitOr ((s * 2 ^ w) % 2 ^ 16) t < size (doubled f) = subst (λ (k : ℕ). k < size (doubled f)) (sym whole) hy in
           let inverts : pair-product f x (bitOr ((s * 2 ^ w) % 2 ^ 16) t) ≡ 1 = ap (pair-product f x) whole ∙ one in
-          narrow (λ m. Ok (bitOr ((s * 2 ^ w) % 2 ^ 16) t) ≡ inverse-answer m x)
-          (inverse-answered (doubled f) (doubled-laws f L h) x _ hx
+          inverse-answered (doubled f) (doubled-laws f L h) x _ hx
           (λ zero′. let no′ : _≡_ {A = ℕ} 0 1 = sym (zero-times (doubled f) (doubled-laws f L h) _ below) ∙ ap (λ (k : ℕ). pair-product f k (bitOr ((s * 2 ^ w) % 2 ^ 16) t)) (sym zero′) ∙ inverts in omega arith)
-          below inverts)
+          below inverts

@@ -1,6 +1,8 @@
 //! The pairs over a field: each field of at most 4 bits doubled, once for all of them.
 ghost use mathlib.Core.Path.{_≡_};
-ghost use Rattle.fields.specs.Pairs.{pair};
+ghost use Prim.Native.Nat.{_≤_};
+ghost use Rattle.fields.specs.Answers.{product-answer, inverse-answer};
+ghost use Rattle.fields.specs.Pairs.{doubled, pair};
 ghost use Rattle.pair_fields.specs.Pairs.{doubles-answer, norm-answer};
 use faults::Fault;
 use faults::FieldCause;
@@ -16,7 +18,8 @@ pub struct Pair<F> {
 impl<F: Field> Pair<F> {
     /// The pairs over `base`.
     pub fn over(base: F) -> Self
-        ensures { λ r. ⌜ r .base ≡ base ⌝ }
+        ensures base { λ r. ⌜ r .base ≡ base ⌝ }
+        ensures meaning { λ r. ⌜ pair (F·Field .meaning (r .base)) ≡ pair (F·Field .meaning base) ⌝ }
     {
         Pair { base }
     }
@@ -42,6 +45,37 @@ fn norm<F: Field>(base: &F, a: u16, b: u16) -> Result<u16, Fault>
     Ok(low ^ high)
 }
 
+/// The product of two pairs over a field of at most 4 bits.
+fn pair_product<F: Field>(base: &F, x: u16, y: u16) -> Result<u16, Fault>
+    requires { ⌜ F·Field .meaning (now base) .width ≤ 4 ⌝ }
+    ensures { λ r. ⌜ r ≡ product-answer (doubled (F·Field .meaning (now (base .entry)))) x y ⌝ }
+{
+    let w = base.width();
+    let mask = (1u16 << w) - 1;
+    let (a, b) = (x >> w, x & mask);
+    let (d, e) = (y >> w, y & mask);
+    // (a + b) (d + e) + b e is the sum of the three products that have a factor t
+    let ad = base.product(a, d)?;
+    let be = base.product(b, e)?;
+    let all = base.product(a ^ b, d ^ e)?;
+    let adc = base.product(ad, base.c())?;
+    Ok((all ^ be) << w | (be ^ adc))
+}
+
+/// The inverse of a pair over a field of at most 4 bits, by the inverse of its norm.
+fn pair_inverse<F: Field>(base: &F, x: u16) -> Result<u16, Fault>
+    requires { ⌜ F·Field .meaning (now base) .width ≤ 4 ⌝ }
+    ensures { λ r. ⌜ r ≡ inverse-answer (doubled (F·Field .meaning (now (base .entry)))) x ⌝ }
+{
+    let w = base.width();
+    let (a, b) = (x >> w, x & ((1u16 << w) - 1));
+    let n = norm(base, a, b)?;
+    let inverse = base.inverse(n)?;
+    let up = base.product(a, inverse)?;
+    let down = base.product(a ^ b, inverse)?;
+    Ok(up << w | down)
+}
+
 pub impl<F: Field> Field for Pair<F> as PairField {
     ghost meaning = { λ p. pair (F·Field .meaning (p .base)) };
 
@@ -56,32 +90,17 @@ pub impl<F: Field> Field for Pair<F> as PairField {
     }
 
     fn product(&self, x: u16, y: u16) -> Result<u16, Fault> {
-        let w = self.base.width();
-        if w > 4 {
-            return self.base.product(x, y);
+        match self.doubles() {
+            Ok(()) => pair_product(&self.base, x, y),
+            Err(_) => self.base.product(x, y),
         }
-        let mask = (1u16 << w) - 1;
-        let (a, b) = (x >> w, x & mask);
-        let (d, e) = (y >> w, y & mask);
-        // (a + b) (d + e) + b e is the sum of the three products that have a factor t
-        let ad = self.base.product(a, d)?;
-        let be = self.base.product(b, e)?;
-        let all = self.base.product(a ^ b, d ^ e)?;
-        let adc = self.base.product(ad, self.base.c())?;
-        Ok((all ^ be) << w | (be ^ adc))
     }
 
     fn inverse(&self, x: u16) -> Result<u16, Fault> {
-        let w = self.base.width();
-        if w > 4 {
-            return self.base.inverse(x);
+        match self.doubles() {
+            Ok(()) => pair_inverse(&self.base, x),
+            Err(_) => self.base.inverse(x),
         }
-        let (a, b) = (x >> w, x & ((1u16 << w) - 1));
-        let n = norm(&self.base, a, b)?;
-        let inverse = self.base.inverse(n)?;
-        let up = self.base.product(a, inverse)?;
-        let down = self.base.product(a ^ b, inverse)?;
-        Ok(up << w | down)
     }
 
     fn roll(&self, i: u16) -> Result<u16, Fault> {

@@ -3,7 +3,7 @@ use Prim.Native.Nat.{ℕ}
 use native.Mathlib.Numerals.{add-one}
 use lib.Dec.{lit<}
 use Rattle.fields.specs.Polynomials.{power, gf256}
-use Rattle.binary_fields.proofs.shift.ShiftField.roll.Needs as need
+use Rattle.binary_fields.proofs.shift.power_of_two.Needs as need
 
 pub loop-k-holds : need.loop-k-holds
 unfolding power

@@ -6,6 +6,6 @@ pub mod table;
 pub use bit::Bit;
 pub use bit::BitField;
 pub use shift::Gf256;
-pub use table::Table;
 pub use shift::ShiftField;
+pub use table::Table;
 pub use table::TableField;

@@ -75,7 +75,10 @@ fn check_refusals<F: Field>(field: &F, size: u16) -> Result<(), Fail> {
         check_eq(field.roll(x), refused(FieldCause::Roll))?;
     }
     check_eq(field.inverse(0), refused(FieldCause::InverseOfZero))?;
-    check_eq(field.roll(size.saturating_sub(1)), refused(FieldCause::Roll))
+    check_eq(
+        field.roll(size.saturating_sub(1)),
+        refused(FieldCause::Roll),
+    )
 }
 
 fn check_field<F: Field, R: Reference>(field: &F, reference: &R) -> Result<(), Fail> {
@@ -88,10 +91,29 @@ fn check_field<F: Field, R: Reference>(field: &F, reference: &R) -> Result<(), F
     check_refusals(field, size)
 }
 
-const BIT: Modular = Modular { width: 1, modulus: 0b11, c: 1 };
-const GF8: Modular = Modular { width: 3, modulus: 0b1011, c: 1 };
-const GF16: Modular = Modular { width: 4, modulus: 0b10011, c: 8 };
-const GF256: Modular = Modular { width: 8, modulus: 0b100011101, c: 32 };
+const BIT: Modular = Modular {
+    width: 1,
+    modulus: 0b11,
+    c: 1,
+};
+
+const GF8: Modular = Modular {
+    width: 3,
+    modulus: 0b1011,
+    c: 1,
+};
+
+const GF16: Modular = Modular {
+    width: 4,
+    modulus: 0b10011,
+    c: 8,
+};
+
+const GF256: Modular = Modular {
+    width: 8,
+    modulus: 0b100011101,
+    c: 32,
+};
 
 #[test]
 fn kinds() -> Result<(), Fail> {
@@ -104,7 +126,12 @@ fn kinds() -> Result<(), Fail> {
 #[test]
 fn pairs() -> Result<(), Fail> {
     check_field(&Pair::over(Bit), &Tower { base: BIT })?;
-    check_field(&Pair::over(Pair::over(Bit)), &Tower { base: Tower { base: BIT } })?;
+    check_field(
+        &Pair::over(Pair::over(Bit)),
+        &Tower {
+            base: Tower { base: BIT },
+        },
+    )?;
     check_field(&Pair::over(Table::Gf8), &Tower { base: GF8 })?;
     check_field(&Pair::over(Table::Gf16), &Tower { base: GF16 })?;
     check_field(&Pair::over(Gf256), &GF256)
@@ -114,8 +141,14 @@ fn pairs() -> Result<(), Fail> {
 fn doublings() -> Result<(), Fail> {
     check_eq(Pair::over(Table::Gf16).doubles(), Ok(()))?;
     check_eq(Pair::over(Pair::over(Bit)).doubles(), Ok(()))?;
-    check_eq(Pair::over(Gf256).doubles(), Err(Fault::field(FieldCause::NoDoubling)))?;
-    check_eq(Pair::over(Pair::over(Table::Gf8)).doubles(), Err(Fault::field(FieldCause::NoDoubling)))
+    check_eq(
+        Pair::over(Gf256).doubles(),
+        Err(Fault::field(FieldCause::NoDoubling)),
+    )?;
+    check_eq(
+        Pair::over(Pair::over(Table::Gf8)).doubles(),
+        Err(Fault::field(FieldCause::NoDoubling)),
+    )
 }
 
 #[test]
@@ -137,7 +170,10 @@ fn fault_lines(rt: LibcRuntime) -> Result<(), Fail> {
     let large = Fault::code(CodeCause::ArraySize);
     check_eq(format!(rt.alloc(), "{large}")?.as_str(), "no\tcode\t25\t-")?;
     let several = Fault::sheet(SheetCause::SeveralWords);
-    check_eq(format!(rt.alloc(), "{several}")?.as_str(), "no\tsheet\t42\t-")?;
+    check_eq(
+        format!(rt.alloc(), "{several}")?.as_str(),
+        "no\tsheet\t42\t-",
+    )?;
     let letter = Fault::line(LineCause::NotANumber).at(2);
     check_eq(format!(rt.alloc(), "{letter}")?.as_str(), "no\tline\t54\t2")
 }

@@ -12,7 +12,7 @@ use Rattle.fields.proofs.Identities.{times-one}
 
 found : (n : ℕ) (test : ℕ → Bool) (y : ℕ) → y < n → T (test y) → ((z : ℕ) → T (test z) → z < n → z ≡ y) → the-one-below n test ≡ y
 found zero test y h t once = absurd (not-suc-le-zero h)
-found (suc n) test y h t once = 
+found (suc n) test y h t once =
     here (test n) refl (eq-or-lt-of-le (le-of-suc-le-suc h)) (λ l. found n test y l t (λ z u m. once z u (omega arith)))
   where
     here : (b : Bool) → test n ≡ b → (y ≡ n) ⊎ (y < n) → (y < n → the-one-below n test ≡ y) → cond b n (the-one-below n test) ≡ y

@@ -1,16 +1,28 @@
 -- The laws of the fields of polynomials: the product is bilinear, so that what is left is computed.
 use mathlib.Core.Path.{_≡_, refl, sym, ap, ap₂, subst, _∙_}
 use mathlib.Core.Bool.{Bool, true, false, not, _&&_, _||_}
+use mathlib.Core.List.{List, [], _∷_}
 use Prim.Native.Nat.{ℕ, zero, suc, _+_, _-_, _*_, _^_, _<_}
 use native.Mathlib.Omega.{arith}
 use lib.Bits.{bitXor}
 use lib.Dec.{T, eqb, ltb, leb, eqb→eq, ltb→lt, leb→le, eqb-refl, T-not, lit<}
 use Rattle.fields.specs.Meaning.{Field-laws}
 use Rattle.fields.specs.Polynomials.{coefficient, carryless, remainder, product-modulo, power, polynomials, gf8, gf16, gf256}
-use Rattle.fields.proofs.Tests.{all, at, same-at, below-at, both-left, both-right}
+use Rattle.fields.proofs.Tests.{all, at, same-at, below-at, both-left, both-right, every, test-at, passed}
 use Rattle.fields.proofs.Additive.{
-  Additive, Bilinear, additive-after, additive-sum, shift-additive, coefficient-below, times-digit-additive, coefficient-times-additive,
-  additive-same, additive-below, bilinear-test, bilinear-same, bilinear-below,
+  Additive,
+  Bilinear,
+  additive-after,
+  additive-sum,
+  shift-additive,
+  coefficient-below,
+  times-digit-additive,
+  coefficient-times-additive,
+  additive-same,
+  additive-below,
+  bilinear-test,
+  bilinear-same,
+  bilinear-below,
 }
 
 -- ---- the product is bilinear
@@ -74,21 +86,25 @@ inverts-test w m x = eqb x 0 || (ltb (reciprocal w m x) (2 ^ w) && eqb (product-
 abbrev at-square : ℕ → ℕ → ℕ → ℕ
 at-square w m z = bitXor (product-modulo w m z z) z
 
-pub record Computed (w m c : ℕ) : Type 0 where
-  pub some-bits : T (leb 1 w)
-  pub few-bits : T (leb w 8)
-  pub closed : T (all w (λ j. all w (λ i. ltb (product-modulo w m (2 ^ i) (2 ^ j)) (2 ^ w))))
-  pub commutes : T (bilinear-test w (product-modulo w m) (λ x y. product-modulo w m y x))
-  pub associates : T (all w (λ k. bilinear-test w (λ x y. product-modulo w m (product-modulo w m x y) (2 ^ k)) (λ x y. product-modulo w m x (product-modulo w m y (2 ^ k)))))
-  pub neutral : T (all w (λ i. eqb (product-modulo w m 1 (2 ^ i)) (2 ^ i)))
-  pub inverts : T (all (2 ^ w) (inverts-test w m))
-  pub doubles : T (all w (λ i. eqb (product-modulo w m 2 (2 ^ i)) (twice w m (2 ^ i))))
-  pub one-below : T (ltb 1 (2 ^ w))
-  pub doubles-below : T (all w (λ i. ltb (twice w m (2 ^ i)) (2 ^ w)))
-  pub roll-nonzero : T (all (2 ^ w - 1) (λ i. ltb 0 (twice-power w m i)))
-  pub roll-once : T (all (2 ^ w - 1) (λ i. eqb (log w m (twice-power w m i)) i))
-  pub c-below : T (ltb c (2 ^ w))
-  pub c-rootless : T (all (2 ^ w) (λ z. not (eqb (at-square w m z) c)))
+-- the tests of a field by their numbers: its width 0 1, closed 2, commutes 3, associates 4, neutral 5, inverts 6,
+-- X by doubling 7 8 9, its powers not 0 and each once 10 11, c 12 13
+abbrev pub tests : ℕ → ℕ → ℕ → List Bool
+tests w m c =
+    leb 1 w
+    ∷ leb w 8
+    ∷ all w (λ j. all w (λ i. ltb (product-modulo w m (2 ^ i) (2 ^ j)) (2 ^ w)))
+    ∷ bilinear-test w (product-modulo w m) (λ x y. product-modulo w m y x)
+    ∷ all w (λ k. bilinear-test w (λ x y. product-modulo w m (product-modulo w m x y) (2 ^ k)) (λ x y. product-modulo w m x (product-modulo w m y (2 ^ k))))
+    ∷ all w (λ i. eqb (product-modulo w m 1 (2 ^ i)) (2 ^ i))
+    ∷ all (2 ^ w) (inverts-test w m)
+    ∷ all w (λ i. eqb (product-modulo w m 2 (2 ^ i)) (twice w m (2 ^ i)))
+    ∷ ltb 1 (2 ^ w)
+    ∷ all w (λ i. ltb (twice w m (2 ^ i)) (2 ^ w))
+    ∷ all (2 ^ w - 1) (λ i. ltb 0 (twice-power w m i))
+    ∷ all (2 ^ w - 1) (λ i. eqb (log w m (twice-power w m i)) i)
+    ∷ ltb c (2 ^ w)
+    ∷ all (2 ^ w) (λ z. not (eqb (at-square w m z) c))
+    ∷ []
 
 -- ---- what is computed, at every element
 
@@ -99,7 +115,10 @@ unless-zero x b ne t = go (eqb x 0) (λ e. ne (eqb→eq x 0 e)) t
     go true no′ u = absurd (no′ tt)
     go false no′ u = u
 
-module _ (w m c : ℕ) (t : Computed w m c) where
+module _ (w m c : ℕ) (t : T (every (tests w m c))) where
+  pass : (i : ℕ) → T (test-at (tests w m c) i)
+  pass = passed (tests w m c) t
+
   abbrev mul : ℕ → ℕ → ℕ
   mul = product-modulo w m
 
@@ -119,13 +138,13 @@ module _ (w m c : ℕ) (t : Computed w m c) where
         left = λ y. linear .left (mul y (2 ^ k));
         right = λ x. additive-after (mul x) (λ y. mul y (2 ^ k)) (linear .right x) (linear .left (2 ^ k));
       })
-      (at w (λ k. bilinear-test w (λ x y. mul (mul x y) (2 ^ k)) (λ x y. mul x (mul y (2 ^ k)))) (t .associates) k hk) x y hx hy)
+      (at w (λ k. bilinear-test w (λ x y. mul (mul x y) (2 ^ k)) (λ x y. mul x (mul y (2 ^ k)))) (pass 4) k hk) x y hx hy)
       z hz
 
   inverts : (x : ℕ) → x < 2 ^ w → (x ≡ 0 → ⊥) → (y : ℕ) × (y < 2 ^ w) × (mul x y ≡ 1)
   inverts x hx ne =
       let y : ℕ = reciprocal w m x in
-      let both : T (ltb y (2 ^ w) && eqb (mul x y) 1) = unless-zero x (ltb y (2 ^ w) && eqb (mul x y) 1) ne (at (2 ^ w) (inverts-test w m) (t .inverts) x hx) in
+      let both : T (ltb y (2 ^ w) && eqb (mul x y) 1) = unless-zero x (ltb y (2 ^ w) && eqb (mul x y) 1) ne (at (2 ^ w) (inverts-test w m) (pass 6) x hx) in
       (y, ltb→lt y (2 ^ w) (both-left (ltb y (2 ^ w)) (eqb (mul x y) 1) both), eqb→eq (mul x y) 1 (both-right (ltb y (2 ^ w)) (eqb (mul x y) 1) both))
 
   -- ---- the powers of X, by doubling
@@ -134,13 +153,13 @@ module _ (w m c : ℕ) (t : Computed w m c) where
   twice-additive = additive-sum (λ x. x * 2) (λ x. coefficient x (w - 1) * m) (shift-additive 1) (coefficient-times-additive (w - 1) m)
 
   pub twice-is : (x : ℕ) → x < 2 ^ w → mul 2 x ≡ twice w m x
-  twice-is = additive-same (mul 2) (twice w m) (linear .right 2) twice-additive w (same-at w (λ i. mul 2 (2 ^ i)) (λ i. twice w m (2 ^ i)) (t .doubles))
+  twice-is = additive-same (mul 2) (twice w m) (linear .right 2) twice-additive w (same-at w (λ i. mul 2 (2 ^ i)) (λ i. twice w m (2 ^ i)) (pass 7))
 
   pub twice-below : (x : ℕ) → x < 2 ^ w → twice w m x < 2 ^ w
-  twice-below = additive-below w (twice w m) twice-additive w (below-at w (2 ^ w) (λ i. twice w m (2 ^ i)) (t .doubles-below))
+  twice-below = additive-below w (twice w m) twice-additive w (below-at w (2 ^ w) (λ i. twice w m (2 ^ i)) (pass 9))
 
   twice-power-below : (i : ℕ) → twice-power w m i < 2 ^ w
-  twice-power-below zero = ltb→lt 1 (2 ^ w) (t .one-below)
+  twice-power-below zero = ltb→lt 1 (2 ^ w) (pass 8)
   twice-power-below (suc i) = twice-below (twice-power w m i) (twice-power-below i)
 
   power-is : (i : ℕ) → power mul 2 i ≡ twice-power w m i
@@ -149,48 +168,39 @@ module _ (w m c : ℕ) (t : Computed w m c) where
   power-is (suc i) = ap (mul 2) (power-is i) ∙ twice-is (twice-power w m i) (twice-power-below i)
 
   logs : (i : ℕ) → i + 1 < 2 ^ w → log w m (power mul 2 i) ≡ i
-  logs i h = ap (log w m) (power-is i) ∙ same-at (2 ^ w - 1) (λ i. log w m (twice-power w m i)) (λ i. i) (t .roll-once) i (omega arith)
+  logs i h = ap (log w m) (power-is i) ∙ same-at (2 ^ w - 1) (λ i. log w m (twice-power w m i)) (λ i. i) (pass 11) i (omega arith)
 
   pub polynomial-laws : Field-laws (polynomials w m c)
   polynomial-laws = record {
-    some-bits = leb→le 1 w (t .some-bits);
-    few-bits = leb→le w 8 (t .few-bits);
-    closed = bilinear-below w mul linear (t .closed);
-    commutes = bilinear-same w mul (λ x y. mul y x) linear (record { left = linear .right; right = linear .left }) (t .commutes);
+    some-bits = leb→le 1 w (pass 0);
+    few-bits = leb→le w 8 (pass 1);
+    closed = bilinear-below w mul linear (pass 2);
+    commutes = bilinear-same w mul (λ x y. mul y x) linear (record { left = linear .right; right = linear .left }) (pass 3);
     associates = associates;
     distributes = λ x y z hx hy hz. linear .right x y z;
-    neutral = additive-same (mul 1) (λ x. x) (linear .right 1) (λ a b. refl) w (same-at w (λ i. mul 1 (2 ^ i)) (λ i. 2 ^ i) (t .neutral));
+    neutral = additive-same (mul 1) (λ x. x) (linear .right 1) (λ a b. refl) w (same-at w (λ i. mul 1 (2 ^ i)) (λ i. 2 ^ i) (pass 5));
     inverts = inverts;
     roll-below = λ i h. subst (λ (n : ℕ). n < 2 ^ w) (sym (power-is i)) (twice-power-below i);
     roll-nonzero = λ i h e.
-        let p : 0 < twice-power w m i = ltb→lt 0 (twice-power w m i) (at (2 ^ w - 1) (λ i. ltb 0 (twice-power w m i)) (t .roll-nonzero) i (omega arith)) in
+        let p : 0 < twice-power w m i = ltb→lt 0 (twice-power w m i) (at (2 ^ w - 1) (λ i. ltb 0 (twice-power w m i)) (pass 10) i (omega arith)) in
         omega (arith, e, power-is i);
     roll-once = λ i j hi hj e. sym (logs i hi) ∙ ap (log w m) e ∙ logs j hj;
-    c-below = ltb→lt c (2 ^ w) (t .c-below);
+    c-below = ltb→lt c (2 ^ w) (pass 12);
     c-rootless = λ z hz e.
-        T-not (eqb (at-square w m z) c) (at (2 ^ w) (λ z. not (eqb (at-square w m z) c)) (t .c-rootless) z hz)
+        T-not (eqb (at-square w m z) c) (at (2 ^ w) (λ z. not (eqb (at-square w m z) c)) (pass 13) z hz)
         (subst (λ (n : ℕ). T (eqb n c)) (sym e) (eqb-refl c));
   }
 
--- ---- the three fields
+-- ---- the three fields, each by one computed test
 
-pub gf8-computed : Computed 3 0b1011 1
+pub gf8-computed : T (every (tests 3 0b1011 1))
 unfolding product-modulo carryless remainder
-gf8-computed = record {
-  some-bits = tt; few-bits = tt; closed = tt; commutes = tt; associates = tt; neutral = tt; inverts = tt;
-  doubles = tt; one-below = tt; doubles-below = tt; roll-nonzero = tt; roll-once = tt; c-below = tt; c-rootless = tt;
-}
+gf8-computed = tt
 
-pub gf16-computed : Computed 4 0b10011 8
+pub gf16-computed : T (every (tests 4 0b10011 8))
 unfolding product-modulo carryless remainder
-gf16-computed = record {
-  some-bits = tt; few-bits = tt; closed = tt; commutes = tt; associates = tt; neutral = tt; inverts = tt;
-  doubles = tt; one-below = tt; doubles-below = tt; roll-nonzero = tt; roll-once = tt; c-below = tt; c-rootless = tt;
-}
+gf16-computed = tt
 
-pub gf256-computed : Computed 8 0b100011101 32
+pub gf256-computed : T (every (tests 8 0b100011101 32))
 unfolding product-modulo carryless remainder
-gf256-computed = record {
-  some-bits = tt; few-bits = tt; closed = tt; commutes = tt; associates = tt; neutral = tt; inverts = tt;
-  doubles = tt; one-below = tt; doubles-below = tt; roll-nonzero = tt; roll-once = tt; c-below = tt; c-rootless = tt;
-}
+gf256-computed = tt

@@ -2,6 +2,7 @@
 use mathlib.Core.Path.{_≡_, subst, sym}
 use mathlib.Core.Bool.{Bool, true, false, _&&_}
 use mathlib.Core.Logic.{_⊎_, inl, inr}
+use mathlib.Core.List.{List, [], _∷_}
 use Prim.Native.Nat.{ℕ, zero, suc, _<_}
 use native.Mathlib.Nat.{not-suc-le-zero, eq-or-lt-of-le, le-of-suc-le-suc}
 use lib.Dec.{T, eqb, ltb, eqb→eq, ltb→lt}
@@ -27,6 +28,21 @@ pub at : (n : ℕ) (test : ℕ → Bool) → T (all n test) → (k : ℕ) → k 
 at zero test t k h = absurd (not-suc-le-zero h)
 at (suc n) test t k h =
     here-or-below n test k (both-left (test n) (all n test) t) (at n test (both-right (test n) (all n test) t) k) (eq-or-lt-of-le (le-of-suc-le-suc h))
+
+-- a list of tests that all pass, and the one at i
+abbrev pub every : List Bool → Bool
+every [] = true
+every (b ∷ bs) = b && every bs
+
+abbrev pub test-at : List Bool → ℕ → Bool
+test-at [] i = true
+test-at (b ∷ bs) zero = b
+test-at (b ∷ bs) (suc i) = test-at bs i
+
+pub passed : (bs : List Bool) → T (every bs) → (i : ℕ) → T (test-at bs i)
+passed [] t i = tt
+passed (b ∷ bs) t zero = both-left b (every bs) t
+passed (b ∷ bs) t (suc i) = passed bs (both-right b (every bs) t) i
 
 -- two functions that are equal, and one that is below m, at each number below n
 pub same-at : (n : ℕ) (f g : ℕ → ℕ) → T (all n (λ x. eqb (f x) (g x))) → (x : ℕ) → x < n → f x ≡ g x

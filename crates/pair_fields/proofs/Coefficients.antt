@@ -13,7 +13,16 @@ use Rattle.fields.specs.Meaning.{Field-meaning, Field-laws, size}
 use Rattle.fields.specs.Answers.{product-answer, inverse, inverse-answer}
 use Rattle.fields.specs.Pairs.{upper, lower, pair-product, doubled, norm}
 use Rattle.fields.proofs.Answered.{
-  both-granted, both-refused, both-refusal, both-answered, product-answered, inverse-answered, inverse-granted, inverse-refused, inverse-of-zero, no-element-refusal,
+  both-granted,
+  both-refused,
+  both-refusal,
+  both-answered,
+  product-answered,
+  inverse-answered,
+  inverse-granted,
+  inverse-refused,
+  inverse-of-zero,
+  no-element-refusal,
 }
 use Rattle.fields.proofs.Identities.{sum, prod, eval, solve, eval-below, Bounded, zero-times}
 use Rattle.fields.proofs.PairLaws.{up, down, one-pair, bounded-one-pair, U, W, N, A, B, C, D, E, doubled-laws, nonzero-norm, pair-inverse}

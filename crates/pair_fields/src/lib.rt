@@ -86,7 +86,11 @@ pub impl<F: Field> Field for Pair<F> as PairField {
 
     fn c(&self) -> u16 {
         let w = self.base.width();
-        if w <= 4 { self.base.c() << w } else { self.base.c() }
+        if w <= 4 {
+            self.base.c() << w
+        } else {
+            self.base.c()
+        }
     }
 
     fn product(&self, x: u16, y: u16) -> Result<u16, Fault> {

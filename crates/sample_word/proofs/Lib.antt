@@ -1,0 +1,5 @@
+pub mod Rows
+pub mod Refusals
+pub mod Sums
+pub mod Words
+pub mod Demonstrations

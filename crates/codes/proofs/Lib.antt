@@ -1,0 +1,9 @@
+pub mod Sums
+pub mod Systematic
+pub mod Families
+pub mod Plus
+pub mod ThreeLost
+pub mod Digits
+pub mod ArrayLaws
+pub mod Pigeons
+pub mod ArrayWords

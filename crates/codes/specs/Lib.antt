@@ -1,0 +1,5 @@
+pub mod Words
+pub mod Answers
+pub mod Systematic
+pub mod Arrays
+pub mod Theorems

@@ -11,6 +11,8 @@ use faults::Fault;
 use fields::Field;
 use std::alloc::AllocError;
 
+const CHECKS: usize = 1;
+
 /// A code of 2 to 512 places, with one check that sums them all.
 #[derive(Copy)]
 pub struct Parity<B> {
@@ -60,15 +62,15 @@ pub impl<B: Field> Code for Parity<B> as ParityCode {
     }
 
     fn checks(&self) -> usize {
-        1
+        CHECKS
     }
 
     fn dimension(&self) -> usize {
-        self.length - 1
+        self.places() - 1
     }
 
     fn entry(&self, check: usize, place: usize) -> Result<u16, Fault> {
-        if check >= self.checks() {
+        if check >= CHECKS {
             return Err(Fault::code(CodeCause::Check));
         }
         self.place(place)?;
@@ -76,7 +78,7 @@ pub impl<B: Field> Code for Parity<B> as ParityCode {
     }
 
     fn message_place(&self, index: usize) -> Result<usize, Fault> {
-        if index >= self.length - 1 {
+        if index >= self.dimension() {
             return Err(Fault::code(CodeCause::MessageIndex));
         }
         Ok(index)
@@ -85,7 +87,7 @@ pub impl<B: Field> Code for Parity<B> as ParityCode {
     fn generator(&self, index: usize, place: usize) -> Result<u16, Fault> {
         let index = self.message_place(index)?;
         let place = self.place(place)?;
-        Ok(if place == index || place == self.length - 1 {
+        Ok(if place == index || place == self.dimension() {
             1
         } else {
             0

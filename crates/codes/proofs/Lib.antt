@@ -2,8 +2,8 @@ pub mod Sums
 pub mod Systematic
 pub mod Families
 pub mod Plus
-pub mod ThreeLost
+pub mod ThreeColumns
 pub mod Digits
 pub mod ArrayLaws
-pub mod Pigeons
+pub mod Pigeonhole
 pub mod ArrayWords

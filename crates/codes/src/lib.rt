@@ -61,20 +61,22 @@ pub trait Code: Lawful {
         Ok(place)
     }
 
-    /// n and k: the sum of two words is a word, and a word is told by its message.
+    /// n and k: the sum of two words is a word, a word is told by its message, and it is its message times the generator.
     fn parameters(&self) -> (usize, usize)
         ensures length { λ r. ⌜ r .0 ≡ Self·Lawful .meaning (now (self .entry)) .places ⌝ }
         ensures dimension { λ r. ⌜ r .1 ≡ Self·Lawful .meaning (now (self .entry)) .dimension ⌝ }
         ensures linear { λ _. ⌜ Sum-is-word (Self·Lawful .meaning (now (self .entry))) ⌝ }
         ensures told { λ _. ⌜ Message-tells-word (Self·Lawful .meaning (now (self .entry))) ⌝ }
+        ensures generated { λ _. ⌜ Generates (Self·Lawful .meaning (now (self .entry))) (Self·Lawful .generating (now (self .entry))) ⌝ }
     {
         linear(self);
         (self.places(), self.dimension())
     }
 }
 
-/// The sum of two words is a word, and a word is told by its message.
+/// What is true of the words of every code.
 fn linear<C: Lawful>(code: &C)
     ensures sum { λ _. ⌜ Sum-is-word (C·Lawful .meaning (now (code .entry))) ⌝ }
     ensures told { λ _. ⌜ Message-tells-word (C·Lawful .meaning (now (code .entry))) ⌝ }
+    ensures generated { λ _. ⌜ Generates (C·Lawful .meaning (now (code .entry))) (C·Lawful .generating (now (code .entry))) ⌝ }
 {}

@@ -12,18 +12,18 @@ use binary_fields::ShiftField;
 use binary_fields::Table;
 use binary_fields::TableField;
 use codes::Code;
+use extended_codes::FourTimes;
+use extended_codes::FourTimesCode;
+use extended_codes::FourTimesLawful;
 use faults::CodeCause;
 use faults::Fault;
 use faults::FaultDebug;
 use faults::FaultPartialEq;
 use fields::Field;
+use parity_codes::Parity;
+use parity_codes::ParityCode;
+use parity_codes::ParityLawful;
 use std::test::*;
-use systematic_codes::FourTimes;
-use systematic_codes::FourTimesCode;
-use systematic_codes::FourTimesLawful;
-use systematic_codes::Parity;
-use systematic_codes::ParityCode;
-use systematic_codes::ParityLawful;
 
 const BIT: Modular = Modular {
     width: 1,

@@ -2,7 +2,7 @@ use mathlib.Core.Path.{_≡_, sym, subst}
 use Prim.Native.Nat.{ℕ, _≤_}
 use native.Mathlib.Nat.{le-trans}
 use Rattle.codes.specs.Words.{Code-meaning, Code-laws}
-use Rattle.codes.proofs.Pigeons.{few-symbols}
+use Rattle.codes.proofs.Pigeonhole.{few-symbols}
 use Rattle.array_codes.proofs.dimension.Needs as need
 
 pub returns : need.returns

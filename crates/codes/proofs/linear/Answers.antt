@@ -5,4 +5,4 @@ pub returns : need.returns
 returns g c =
     let m = g .C·Lawful .meaning (c .args .code .now) in
     let K = g .C·Lawful·met .lawful (c .args .code .now) in
-    record { sum = sum-is-word m K; told = message-tells-word m K }
+    record { sum = sum-is-word m K; told = message-tells-word m K; generated = g .C·Lawful·met .generates (c .args .code .now) }

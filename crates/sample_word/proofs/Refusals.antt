@@ -1,23 +1,30 @@
 -- The refusal of the first item that fails a test, and of a wrong length.
-use mathlib.Core.Path.{_≡_, refl, sym, ap, _∙_}
+use mathlib.Core.Path.{_≡_, refl, sym, ap, subst, _∙_}
 use mathlib.Core.Bool.{Bool, true, false}
 use mathlib.Core.List.{List, [], _∷_, map}
+use mathlib.Core.Logic.{⊎-elim}
 use Prim.Native.Nat.{ℕ, zero, suc, _+_, _<_, _≤_, suc-le-suc}
 use native.Mathlib.Nat.{add-zero, zero-add}
 use native.Mathlib.Omega.{arith}
-use lib.Dec.{eqb, ltb}
+use lib.Bits.{bitXor}
+use lib.Dec.{eqb, ltb, lit<}
 use lib.ListN.{length, getD}
 use Rattle.std.specs.declared.result.Result.{Result}
 use Rattle.std.specs.declared.result.Result.the-variants.{Ok, Err}
 use Rattle.std.specs.declared.option.Option.the-variants.{None}
 use Rattle.std.specs.Options.{isSome, valueOr}
 use Rattle.std.proofs.shelf.Lists.{ext-getD, getD-map, length-map}
-use Rattle.std.proofs.shelf.Tests.{cond-true, cond-false, eq-eqb, lt-ltb, le-ltb}
+use Rattle.std.proofs.shelf.Tests.{cond-true, cond-false, cases-lt, eq-eqb, lt-ltb, le-ltb}
 use Rattle.faults.specs.declared.Fault.{Fault}
-use Rattle.faults.specs.Table.{wrong-length, no-element-at, not-a-number}
+use Rattle.faults.specs.Table.{wrong-length, no-element-at, told-at, not-a-number}
 use Rattle.sample_word.specs.Answers.{if-all, if-seven, accept-answer, numbers-answer}
 use Rattle.sample_word.specs.Numbers.{number-of}
-use Rattle.sample_word.specs.Word.{Elements, at}
+use Rattle.fields.specs.Meaning.{Field-meaning}
+use Rattle.fields.specs.Answers.{sum-answer}
+use Rattle.fields.specs.Polynomials.{gf8}
+use Rattle.fields.proofs.Answered.{both-granted, both-refused}
+use Rattle.codes.specs.Words.{Message, at}
+use Rattle.sample_word.specs.Sample.{sample}
 
 pub seven : {X A : Type 0} (xs : List X) (answer : Result A Fault) → length xs ≡ 7 → if-seven xs answer ≡ answer
 seven xs answer e = cond-true (eqb (length xs) 7) answer (Err wrong-length) (eq-eqb (length xs) 7 e)
@@ -45,15 +52,27 @@ module _ {X A : Type 0} (test : X → Bool) (refusal : ℕ → Fault) (answer : 
 abbrev is-symbol : ℕ → Bool
 is-symbol x = ltb x 8
 
-pub symbol-refused : (m : List ℕ) (i : ℕ) → length m ≡ 7 → i < length m → ((k : ℕ) → k < i → at m k < 8) → 8 ≤ at m i → accept-answer m ≡ Err (no-element-at i)
-symbol-refused m i l h below here =
+-- what the field says of a symbol when it is asked to add 0
+pub symbol-granted : (f : Field-meaning) (x y : ℕ) → f ≡ gf8 → Ok y ≡ sum-answer f x 0 → x < 8
+symbol-granted f x y e a = both-granted gf8 x 0 (bitXor x 0) y (a ∙ ap (λ (f : Field-meaning). sum-answer f x 0) e) .0
+
+pub symbol-refused : (f : Field-meaning) (m : List ℕ) (i : ℕ) (fault : Fault) → f ≡ gf8 → length m ≡ 7 → i < length m → ((k : ℕ) → k < i → at m k < 8)
+    → Err fault ≡ sum-answer f (at m i) 0 → accept-answer m ≡ Err (told-at fault i)
+symbol-refused f m i fault e l h below a =
+    let (q, no′) = both-refused gf8 (at m i) 0 (bitXor (at m i) 0) fault (a ∙ ap (λ (f : Field-meaning). sum-answer f (at m i) 0) e) in
+    let here : 8 ≤ at m i = not-below (at m i) (λ b. no′ b (lit< tt)) in
     seven m (if-all is-symbol no-element-at 0 m (Ok tt)) l
     ∙ first-fails is-symbol no-element-at (Ok tt) 0 0 m i h (λ k lk. lt-ltb (at m k) 8 (below k lk)) (le-ltb (at m i) 8 here)
     ∙ ap (λ (n : ℕ). Err (no-element-at n)) (zero-add i)
+    ∙ ap (λ (f : Fault). Err (told-at f i)) (sym q)
+  where
+    not-below : (x : ℕ) → (x < 8 → ⊥) → 8 ≤ x
+    not-below x u = ⊎-elim (λ b. absurd (u b)) (λ l. l) (cases-lt x 8)
 
-pub message-granted : (m : List ℕ) → length m ≡ 7 → Elements m → accept-answer m ≡ Ok tt
-message-granted m l h =
-    seven m (if-all is-symbol no-element-at 0 m (Ok tt)) l ∙ all-pass is-symbol no-element-at (Ok tt) 0 0 m (λ k lk. lt-ltb (at m k) 8 (h k))
+pub message-granted : (m : List ℕ) → Message sample m → accept-answer m ≡ Ok tt
+message-granted m M =
+    seven m (if-all is-symbol no-element-at 0 m (Ok tt)) (M .long)
+    ∙ all-pass is-symbol no-element-at (Ok tt) 0 0 m (λ k l. lt-ltb (at m k) 8 (M .elements k (subst (λ (n : ℕ). k < n) (M .long) l)))
 
 -- ---- texts
 

@@ -10,7 +10,7 @@ use Rattle.std.specs.Options.{isSome, valueOr}
 use Rattle.faults.specs.declared.Fault.{Fault}
 use Rattle.faults.specs.Table.{no-element-at, wrong-length, not-a-number}
 use Rattle.sample_word.specs.declared.Demonstration.{Demonstration}
-use Rattle.sample_word.specs.Word.{encoded, erased}
+use Rattle.sample_word.specs.Sample.{encoded, erased}
 use Rattle.sample_word.specs.Numbers.{number-of}
 
 -- the answer where each item passes the test, and else the refusal of the first that fails, at its index, counted from i
@@ -34,7 +34,7 @@ accept-answer m = if-seven m (if-all (λ x. ltb x 8) no-element-at 0 m (Ok tt))
 abbrev pub encode-answer : List ℕ → Result (List ℕ) Fault
 encode-answer m = then-give (accept-answer m) (encoded m)
 
--- the word w is laid out, its symbol at place 3 is erased and worked back, and every row sums to zero
+-- the word w is laid out, its symbol at place 3 is erased and worked back, and every check sums to zero
 abbrev pub demonstration : List ℕ → Demonstration
 demonstration w = record { word = w; received = erased w; restored = w; «row_sums» = 0 ∷ 0 ∷ 0 ∷ 0 ∷ [] }
 

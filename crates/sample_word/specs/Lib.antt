@@ -1,3 +1,3 @@
-pub mod Word
+pub mod Sample
 pub mod Numbers
 pub mod Answers

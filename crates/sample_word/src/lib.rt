@@ -1,75 +1,77 @@
-//! Seven symbols of GF(8) laid out as a codeword of eleven by four rows of checks.
-//!
-//! Place p below 7 has the point x_p, the element that GF(8) rolls at 6 - p. Row j, from 0 to 3, sums
-//! x_p to the power j times each of the first seven symbols and the symbol at place 7 + j; in a codeword
-//! every row sums to zero.
+//! Seven symbols of GF(8) laid out as a word of eleven of the four times extended code.
 ghost use mathlib.Core.Path.{_≡_};
-ghost use Prim.Native.Nat.{ℕ, _+_, _<_, _≤_};
-ghost use lib.ListN.{length, take};
 ghost use mathlib.Core.List.{map};
+ghost use Prim.Native.Nat.{_<_};
+ghost use lib.Bits.{bitXor};
+ghost use lib.ListN.{length};
 ghost use Rattle.std.specs.declared.result.Result.the-variants.{Ok};
 ghost use Rattle.std.specs.Of.String.{string-bytes};
 ghost use Rattle.std.specs.Vec.{made};
+ghost use Rattle.fields.specs.Polynomials.{gf8};
+ghost use Rattle.binary_fields.specs.declared.table.Table.the-variants.{Gf8};
+ghost use Rattle.codes.specs.Words.{Word, Message, Carries};
 ghost use Rattle.sample_word.specs.Answers.{accept-answer, encode-answer, demonstration, demonstrate-answer, numbers-answer, read-answer};
 ghost use Rattle.sample_word.specs.Numbers.{number-of};
-ghost use Rattle.sample_word.specs.Word.{Elements, Message, Word, coefficient as coefficient-of, part, checks, row-sums, encoded, erased, held, held-sum, filled};
+ghost use Rattle.sample_word.specs.Sample.{sample, Elements, symbol-of, encoded, row-sum, row-sums, erased, filled};
 use binary_fields::Table;
 use binary_fields::TableField;
+use codes::Code;
+use extended_codes::FourTimes;
+use extended_codes::FourTimesCode;
+use extended_codes::FourTimesLawful;
 use faults::Fault;
-use faults::FieldCause;
 use faults::LineCause;
 use faults::SheetCause;
 use fields::Field;
 
-/// What the row `j` multiplies the symbol at place `p` by: the j-th power of the place's point.
-fn coefficient(j: u16, p: u16) -> Result<u16, Fault>
-    requires { ⌜ p < 7 ⌝ }
-    ensures { λ r. ⌜ r ≡ Ok (coefficient-of j p) ⌝ }
+/// The four times extended code over GF(8): eleven places, seven of them the message, and four checks.
+fn sample_code() -> FourTimes<Table>
+    ensures { λ r. ⌜ r .base ≡ Gf8 ⌝ }
 {
-    let field = Table::Gf8;
-    let point = field.roll(6 - p)?;
-    let mut power = 1;
-    for _ in 0..j {
-        power = field.product(point, power)?;
-    }
-    Ok(power)
+    FourTimes::over(Table::Gf8)
 }
 
-/// What the first seven symbols add to the row `j`.
-fn row_part(j: u16, symbols: &[u16]) -> Result<u16, Fault>
-    requires { ⌜ 7 ≤ length (now symbols) ⌝ ∗ ⌜ Elements (now symbols) ⌝ }
-    ensures { λ r. ⌜ r ≡ Ok (part 7 j (now (symbols .entry))) ⌝ }
+/// A sum, and one more term: the product of two elements.
+fn add_product(code: &FourTimes<Table>, total: u16, x: u16, y: u16) -> Result<u16, Fault>
+    requires { ⌜ now code .base ≡ Gf8 ⌝ ∗ ⌜ total < 8 ⌝ ∗ ⌜ x < 8 ⌝ ∗ ⌜ y < 8 ⌝ }
+    ensures { λ r. ⌜ r ≡ Ok (bitXor total (gf8 .product x y)) ⌝ }
 {
-    let field = Table::Gf8;
+    let field = code.field();
+    field.sum(total, field.product(x, y)?)
+}
+
+/// The symbol of a message's word at a place: the message times a column of the generator.
+fn symbol(code: &FourTimes<Table>, message: &[u16], place: usize) -> Result<u16, Fault>
+    requires { ⌜ now code .base ≡ Gf8 ⌝ ∗ ⌜ Message sample (now message) ⌝ ∗ ⌜ place < 11 ⌝ }
+    ensures { λ r. ⌜ r ≡ Ok (symbol-of (now (message .entry)) place) ⌝ }
+{
     let mut total = 0;
-    for p in 0..7u16 {
-        let term = field.product(coefficient(j, p)?, symbols[p as usize])?;
-        total = field.sum(total, term)?;
+    for (i, x) in message.iter().enumerate() {
+        total = add_product(code, total, *x, code.generator(i, place)?)?;
     }
     Ok(total)
 }
 
-/// The four checks of a message.
-fn checks_of(message: &[u16]) -> Result<[u16; 4], Fault>
-    requires { ⌜ Message (now message) ⌝ }
-    ensures { λ r. ⌜ r ≡ Ok (checks (now (message .entry))) ⌝ }
+/// What a check sums to.
+fn row_sum(code: &FourTimes<Table>, word: &[u16; 11], check: usize) -> Result<u16, Fault>
+    requires { ⌜ now code .base ≡ Gf8 ⌝ ∗ ⌜ Elements (now word) ⌝ ∗ ⌜ check < 4 ⌝ }
+    ensures { λ r. ⌜ r ≡ Ok (row-sum check (now (word .entry))) ⌝ }
 {
-    let mut found = [0; 4];
-    for j in 0..4u16 {
-        found[j as usize] = row_part(j, message)?;
+    let mut total = 0;
+    for (p, x) in word.iter().enumerate() {
+        total = add_product(code, total, code.entry(check, p)?, *x)?;
     }
-    Ok(found)
+    Ok(total)
 }
 
-/// What the four rows sum to.
-fn row_sums(word: &[u16; 11]) -> Result<[u16; 4], Fault>
-    requires { ⌜ Elements (now word) ⌝ }
+/// What the four checks sum to.
+fn row_sums(code: &FourTimes<Table>, word: &[u16; 11]) -> Result<[u16; 4], Fault>
+    requires { ⌜ now code .base ≡ Gf8 ⌝ ∗ ⌜ Elements (now word) ⌝ }
     ensures { λ r. ⌜ r ≡ Ok (row-sums (now (word .entry))) ⌝ }
 {
-    let field = Table::Gf8;
     let mut sums = [0; 4];
-    for j in 0..4u16 {
-        sums[j as usize] = field.sum(row_part(j, word)?, word[7 + j as usize])?;
+    for (j, sum) in sums.iter_mut().enumerate() {
+        *sum = row_sum(code, word, j)?;
     }
     Ok(sums)
 }
@@ -77,41 +79,44 @@ fn row_sums(word: &[u16; 11]) -> Result<[u16; 4], Fault>
 /// Whether a message has seven symbols, each an element; 33 where its length is another, 11 at the first that is none.
 fn accept(message: &[u16]) -> Result<(), Fault>
     ensures value { λ r. ⌜ r ≡ accept-answer (now (message .entry)) ⌝ }
-    ensures message { λ r. ⌜ made r (λ _. Message (now (message .entry))) ⌝ }
+    ensures message { λ r. ⌜ made r (λ _. Message sample (now (message .entry))) ⌝ }
 {
-    if message.len() != 7 {
+    let code = sample_code();
+    if message.len() != code.dimension() {
         return Err(Fault::sheet(SheetCause::Length));
     }
     for (i, x) in message.iter().enumerate() {
-        if *x >= 8 {
-            return Err(Fault::field(FieldCause::Operand).at(i));
+        if let Err(fault) = code.field().sum(*x, 0) {
+            return Err(fault.at(i));
         }
     }
     Ok(())
 }
 
-/// The codeword of a message: the message and its checks.
+/// The word of a message: the message times the generator.
 fn lay_out(message: &[u16]) -> Result<[u16; 11], Fault>
-    requires { ⌜ Message (now message) ⌝ }
+    requires { ⌜ Message sample (now message) ⌝ }
     ensures value { λ r. ⌜ r ≡ Ok (encoded (now (message .entry))) ⌝ }
-    ensures word { λ r. ⌜ made r (λ w. Word w × (take 7 w ≡ now (message .entry))) ⌝ }
+    ensures word { λ r. ⌜ made r (λ w. Word sample w × Carries sample w (now (message .entry))) ⌝ }
 {
+    let code = sample_code();
     let mut word = [0; 11];
-    word[0..7].copy_from_slice(message);
-    word[7..11].copy_from_slice(&checks_of(message)?);
+    for (p, x) in word.iter_mut().enumerate() {
+        *x = symbol(&code, message, p)?;
+    }
     Ok(word)
 }
 
-/// The codeword of a message; 33 where it has not seven symbols, 11 at the first that is no element.
+/// The word of a message; 33 where it has not seven symbols, 11 at the first that is no element.
 pub fn encode(message: &[u16]) -> Result<[u16; 11], Fault>
     ensures value { λ r. ⌜ r ≡ encode-answer (now (message .entry)) ⌝ }
-    ensures word { λ r. ⌜ made r (λ w. Word w × (take 7 w ≡ now (message .entry))) ⌝ }
+    ensures word { λ r. ⌜ made r (λ w. Word sample w × Carries sample w (now (message .entry))) ⌝ }
 {
     accept(message)?;
     lay_out(message)
 }
 
-/// What is received of a codeword whose symbol at place 3 is erased.
+/// What is received of a word whose symbol at place 3 is erased.
 fn erase(word: &[u16; 11]) -> [Option<u16>; 11]
     ensures { λ r. ⌜ r ≡ erased (now (word .entry)) ⌝ }
 {
@@ -121,18 +126,6 @@ fn erase(word: &[u16; 11]) -> [Option<u16>; 11]
     }
     received[3] = None;
     received
-}
-
-/// The sum of what is held in row 0, whose coefficients are all 1: the erased symbol, where one of the row is.
-fn first_row(received: &[Option<u16>; 11]) -> Result<u16, Fault>
-    requires { ⌜ ((p : ℕ) → held (now received) p < 8) ⌝ }
-    ensures { λ r. ⌜ r ≡ Ok (held-sum 8 (now (received .entry))) ⌝ }
-{
-    let mut total = 0;
-    for p in 0..8usize {
-        total = Table::Gf8.sum(total, received[p].unwrap_or(0))?;
-    }
-    Ok(total)
 }
 
 /// What is held, with one symbol put at each erasure.
@@ -146,7 +139,7 @@ fn fill(received: &[Option<u16>; 11], symbol: u16) -> [u16; 11]
     word
 }
 
-/// A codeword, and what becomes of it when a symbol is erased and worked back.
+/// A word, and what becomes of it when a symbol is erased and worked back.
 #[derive(Clone, Copy)]
 pub struct Demonstration {
     pub word: [u16; 11],
@@ -154,18 +147,21 @@ pub struct Demonstration {
     pub received: [Option<u16>; 11],
     /// What is worked back from `received`.
     pub restored: [u16; 11],
-    /// What the rows of `restored` sum to.
+    /// What the checks of `restored` sum to.
     pub row_sums: [u16; 4],
 }
 
-/// A codeword, erased at place 3 and worked back from row 0.
+/// A word, erased at place 3 and worked back: with 0 there, the first check sums to the erased symbol,
+/// since its entry at place 3 is 1.
 fn work_back(word: [u16; 11]) -> Result<Demonstration, Fault>
-    requires { ⌜ Word word ⌝ }
+    requires { ⌜ Word sample word ⌝ }
     ensures { λ r. ⌜ r ≡ Ok (demonstration word) ⌝ }
 {
+    let code = sample_code();
     let received = erase(&word);
-    let restored = fill(&received, first_row(&received)?);
-    let row_sums = row_sums(&restored)?;
+    let symbol = row_sum(&code, &fill(&received, 0), 0)?;
+    let restored = fill(&received, symbol);
+    let row_sums = row_sums(&code, &restored)?;
     Ok(Demonstration {
         word,
         received,
@@ -174,7 +170,7 @@ fn work_back(word: [u16; 11]) -> Result<Demonstration, Fault>
     })
 }
 
-/// The codeword of a message, erased at place 3 and worked back from row 0; refused as `encode` refuses.
+/// The word of a message, erased at place 3 and worked back from the first check; refused as `encode` refuses.
 pub fn demonstrate(message: &[u16]) -> Result<Demonstration, Fault>
     ensures { λ r. ⌜ r ≡ demonstrate-answer (now (message .entry)) ⌝ }
 {

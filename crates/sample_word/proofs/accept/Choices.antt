@@ -1,5 +1,5 @@
 use Prim.Native.Nat.{ℕ, _<_}
-use Rattle.sample_word.specs.Word.{at}
+use Rattle.codes.specs.Words.{at}
 use Rattle.sample_word.proofs.accept.Given as given
 
 abbrev pub Inv-loop-i : given.InvT-loop-i

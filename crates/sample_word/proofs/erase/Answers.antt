@@ -1,12 +1,12 @@
-use mathlib.Core.Path.{refl, ap, _∙_}
+use mathlib.Core.Path.{refl, ap}
 use mathlib.Core.List.{List}
 use Prim.Native.Nat.{ℕ, _<_}
 use native.Mathlib.Omega.{arith}
 use lib.ListN.{length, length-set, set}
 use Rattle.std.specs.declared.option.Option.{Option}
 use Rattle.std.specs.declared.option.Option.the-variants.{Some, None}
-use Rattle.sample_word.specs.Word.{at}
-use Rattle.sample_word.proofs.Rows.{written-more, written-all}
+use Rattle.codes.specs.Words.{at}
+use Rattle.sample_word.proofs.Lists.{written-more, written-all}
 use Rattle.sample_word.proofs.erase.Needs as need
 
 pub loop-p-again : need.loop-p-again

@@ -2,7 +2,7 @@ use mathlib.Core.Path.{_≡_}
 use Prim.Native.Nat.{ℕ, _<_}
 use lib.ListN.{length, getD}
 use Rattle.std.specs.declared.option.Option.the-variants.{Some, None}
-use Rattle.sample_word.specs.Word.{at}
+use Rattle.codes.specs.Words.{at}
 use Rattle.sample_word.proofs.erase.Given as given
 
 abbrev pub Inv-loop-p : given.InvT-loop-p

@@ -1,10 +1,9 @@
-use mathlib.Core.Path.{_∙_}
 use Prim.Native.Nat.{_<_}
 use native.Mathlib.Omega.{arith}
 use lib.ListN.{length, getD, length-set}
 use Rattle.std.specs.declared.option.Option.the-variants.{None}
 use Rattle.std.specs.Options.{valueOr}
-use Rattle.sample_word.proofs.Rows.{written-more, written-all}
+use Rattle.sample_word.proofs.Lists.{written-more, written-all}
 use Rattle.sample_word.proofs.fill.Needs as need
 
 pub loop-p-again : need.loop-p-again

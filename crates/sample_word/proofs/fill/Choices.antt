@@ -3,7 +3,7 @@ use Prim.Native.Nat.{ℕ, _<_}
 use lib.ListN.{length, getD}
 use Rattle.std.specs.declared.option.Option.the-variants.{None}
 use Rattle.std.specs.Options.{valueOr}
-use Rattle.sample_word.specs.Word.{at}
+use Rattle.codes.specs.Words.{at}
 use Rattle.sample_word.proofs.fill.Given as given
 
 abbrev pub Inv-loop-p : given.InvT-loop-p

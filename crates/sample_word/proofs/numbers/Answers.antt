@@ -15,7 +15,7 @@ use Rattle.faults.specs.declared.Fault.{Fault}
 use Rattle.faults.specs.Table.{told-at}
 use Rattle.sample_word.specs.Numbers.{number-of}
 use Rattle.sample_word.proofs.Refusals.{text-at, text-refused, texts-granted}
-use Rattle.sample_word.proofs.Rows.{written-more}
+use Rattle.sample_word.proofs.Lists.{written-more}
 use Rattle.sample_word.proofs.numbers.Needs as need
 
 pub returns-in-rest : need.returns-in-rest

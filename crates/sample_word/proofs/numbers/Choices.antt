@@ -6,7 +6,7 @@ use lib.ListN.{length, getD}
 use Rattle.std.specs.Of.String.{string-bytes}
 use Rattle.std.specs.Options.{isSome, valueOr}
 use Rattle.sample_word.specs.Numbers.{number-of}
-use Rattle.sample_word.specs.Word.{at}
+use Rattle.codes.specs.Words.{at}
 use Rattle.sample_word.proofs.numbers.Given as given
 
 abbrev pub Inv-loop-i : given.InvT-loop-i

@@ -133,6 +133,7 @@ fn check_four_times<F: Field + Copy, R: Reference>(field: F, reference: &R) -> R
             check_eq(code.entry(j, p)?, four_times_entry(reference, q, j, p))?;
         }
     }
+    check_eq(code.erasures(), 3)?;
     check_generator(&code, reference)?;
     check_refusals(&code)
 }
@@ -142,8 +143,7 @@ fn four_times() -> Result<(), Fail> {
     check_four_times(Bit, &BIT)?;
     check_four_times(Table::Gf8, &GF8)?;
     check_four_times(Table::Gf16, &GF16)?;
-    check_shape(&FourTimes::over(Gf256), 259, 4, 255)?;
-    check_eq(FourTimes::over(Gf256).erasures(), 3)
+    check_shape(&FourTimes::over(Gf256), 259, 4, 255)
 }
 
 /// The rows of the GF(8) code at its seven points, as powers of 2.
@@ -154,9 +154,8 @@ const EXPONENTS: [[u16; 7]; 4] = [
     [4, 1, 5, 2, 6, 3, 0],
 ];
 
-#[test]
-fn check_matrix() -> Result<(), Fail> {
-    let code = FourTimes::over(Table::Gf8);
+/// The entries of the GF(8) code, and its unit columns.
+fn check_matrix<C: Code>(code: &C) -> Result<(), Fail> {
     for (j, row) in EXPONENTS.iter().enumerate() {
         for (p, exponent) in row.iter().enumerate() {
             check_eq(code.entry(j, p)?, GF8.roll(*exponent))?;
@@ -167,6 +166,11 @@ fn check_matrix() -> Result<(), Fail> {
         }
     }
     Ok(())
+}
+
+#[test]
+fn matrix() -> Result<(), Fail> {
+    check_matrix(&FourTimes::over(Table::Gf8))
 }
 
 fn check_parity<F: Field + Copy, R: Reference>(
@@ -183,18 +187,26 @@ fn check_parity<F: Field + Copy, R: Reference>(
     check_refusals(&code)
 }
 
+fn refuse_length<F: Field + Copy>(field: F, length: usize) -> Result<(), Fail> {
+    match Parity::new(field, length) {
+        Ok(_) => Err(Fail::new("a length that is none")),
+        Err(fault) => check_eq(fault, Fault::code(CodeCause::ParityLength)),
+    }
+}
+
+fn longest<F: Field + Copy>(field: F) -> Result<(), Fail> {
+    check_shape(&Parity::new(field, 512)?, 512, 1, 511)
+}
+
 #[test]
 fn parity() -> Result<(), Fail> {
     check_parity(Bit, &BIT, 2)?;
     check_parity(Table::Gf8, &GF8, 6)?;
     check_parity(Table::Gf16, &GF16, 31)?;
     for length in [0, 1, 513, usize::MAX] {
-        match Parity::new(Bit, length) {
-            Ok(_) => return Err(Fail::new("a length that is none")),
-            Err(fault) => check_eq(fault, Fault::code(CodeCause::ParityLength))?,
-        }
+        refuse_length(Bit, length)?;
     }
-    check_shape(&Parity::new(Gf256, 512)?, 512, 1, 511)
+    longest(Gf256)
 }
 
 /// The entry of an array, from the entries of the code below and the reference's products.
@@ -229,6 +241,14 @@ fn check_array<V: Code + Copy, R: Reference>(code: V, reference: &R) -> Result<(
     check_refusals(&array)
 }
 
+/// An array that does not fit is the code of no places.
+fn check_too_large<V: Code + Copy>(code: V) -> Result<(), Fail> {
+    let array = Array::over(code);
+    check_shape(&array, 0, 0, 0)?;
+    check_eq(array.fits(), Err(Fault::code(CodeCause::ArraySize)))?;
+    check_refusals(&array)
+}
+
 #[test]
 fn arrays() -> Result<(), Fail> {
     let over8 = FourTimes::over(Table::Gf8);
@@ -238,8 +258,5 @@ fn arrays() -> Result<(), Fail> {
     check_array(over8, &GF8)?;
     check_array(over16, &GF16)?;
     check_array(Array::over(FourTimes::over(Bit)), &BIT)?;
-    let large = Array::over(FourTimes::over(Gf256));
-    check_shape(&large, 0, 0, 0)?;
-    check_eq(large.fits(), Err(Fault::code(CodeCause::ArraySize)))?;
-    check_refusals(&large)
+    check_too_large(FourTimes::over(Gf256))
 }

@@ -209,6 +209,19 @@ fn parity() -> Result<(), Fail> {
     longest(Gf256)
 }
 
+/// The quotient and the remainder by a number that is not 0.
+fn divide(x: usize, by: usize) -> (usize, usize) {
+    if by == 0 {
+        return (0, x);
+    }
+    (x / by, x % by)
+}
+
+/// 2 to the power `b`.
+fn power_of_two(b: usize) -> u16 {
+    if b < 16 { 1 << b } else { 0 }
+}
+
 /// The entry of an array, from the entries of the code below and the reference's products.
 fn array_entry<V: Code, R: Reference>(
     code: &V,
@@ -216,17 +229,17 @@ fn array_entry<V: Code, R: Reference>(
     check: usize,
     place: usize,
 ) -> Result<u16, Fail> {
-    let w = usize::from(reference.width()).max(1);
-    let (row, column) = (place / (w + 1), place % (w + 1));
+    let w = usize::from(reference.width());
+    let (row, column) = divide(place, w.saturating_add(1));
     if check < code.places() {
         return Ok(if check == row { 1 } else { 0 });
     }
     if column == w {
         return Ok(0);
     }
-    let t = check - code.places();
-    let z = reference.product(code.entry(t / w, row)?, 1u16.wrapping_shl(column as u32));
-    Ok(z.wrapping_shr((t % w) as u32) & 1)
+    let (j, b) = divide(check.saturating_sub(code.places()), w);
+    let z = reference.product(code.entry(j, row)?, power_of_two(column));
+    Ok(if z & power_of_two(b) == 0 { 0 } else { 1 })
 }
 
 fn check_array<V: Code + Copy, R: Reference>(code: V, reference: &R) -> Result<(), Fail> {

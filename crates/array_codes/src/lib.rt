@@ -1,4 +1,6 @@
 //! The array over a code: its symbols as rows of bits, each with a parity behind it.
+#![tactic(auto)]
+
 ghost use Rattle.std.specs.Prelude.{◌≡◌, ℕ, ◌/◌, ◌%◌, ◌^◌, ◌<◌, ◌≤◌, Ok};
 ghost use Rattle.codes.specs.Words.{sum};
 ghost use Rattle.codes.specs.Arrays.{bit, array, array_entry, array_message_place, array_fits, fits_answer, array_generator};

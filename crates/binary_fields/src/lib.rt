@@ -1,4 +1,6 @@
 //! The bit field, the table fields and the shift field.
+#![tactic(auto)]
+
 pub mod bit;
 pub mod shift;
 pub mod table;

@@ -1,4 +1,6 @@
 //! The interface of a code, what a code means, and the laws that every code keeps.
+#![tactic(auto)]
+
 ghost use Rattle.std.specs.Prelude.{◌≡◌, ℕ};
 ghost use Rattle.codes.specs.Words.{CodeMeaning, CodeLaws, Generates};
 ghost use Rattle.codes.specs.Answers.{place_answer, entry_answer, message_place_answer, generator_answer};

@@ -1,5 +1,7 @@
 //! Lays a message out as a word, erases one symbol, works it back and prints each step.
 //! The message is the seven arguments, or 6 5 4 6 7 4 3 where there are none.
+#![tactic(auto)]
+
 ghost use Rattle.std.specs.Prelude.{◌≡◌, [], ◌∷◌, length, if◌then◌else◌, Ok, string_bytes, nat_eq};
 ghost use Rattle.sample_word.specs.Answers.{read_answer};
 

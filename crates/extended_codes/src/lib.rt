@@ -1,4 +1,6 @@
 //! The four times extended code.
+#![tactic(auto)]
+
 ghost use Rattle.std.specs.Prelude.{◌≡◌, ◌+◌, ◌-◌, ◌<◌, ◌≤◌, Ok};
 ghost use Rattle.fields.specs.Meaning.{size};
 ghost use Rattle.codes.specs.Systematic.{power_of, point, four_entry, four_times, four_generator};

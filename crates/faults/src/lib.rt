@@ -1,4 +1,6 @@
 //! Why a call is refused: its layer, its number and, where there is one, its place.
+#![tactic(auto)]
+
 ghost use Rattle.std.specs.Prelude.{◌≡◌, Some};
 ghost use Rattle.faults.specs.Table.{plain, told_at, number_of, layer_name, refusal};
 

@@ -1,4 +1,6 @@
 //! The interface of a field, what a field means, and the laws that every field keeps.
+#![tactic(auto)]
+
 ghost use Rattle.std.specs.Prelude.{◌≡◌};
 ghost use Rattle.fields.specs.Meaning.{FieldMeaning, FieldLaws};
 ghost use Rattle.fields.specs.Answers.{sum_answer, product_answer, inverse_answer, roll_answer};

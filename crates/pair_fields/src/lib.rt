@@ -1,4 +1,6 @@
 //! The pairs over a field: each field of at most 4 bits doubled, once for all of them.
+#![tactic(auto)]
+
 ghost use Rattle.std.specs.Prelude.{◌≡◌, ◌≤◌};
 ghost use Rattle.fields.specs.Answers.{product_answer, inverse_answer};
 ghost use Rattle.fields.specs.Pairs.{doubled, pair};

@@ -1,4 +1,6 @@
 //! Single parity: the symbols of a word sum to zero.
+#![tactic(auto)]
+
 ghost use Rattle.std.specs.Prelude.{◌≡◌, ◌≤◌, Ok, Err};
 ghost use Rattle.faults.specs.Table.{parity_length};
 ghost use Rattle.codes.specs.Systematic.{parity, parity_generator};

@@ -1,4 +1,6 @@
 //! Repair: which words of a code agree with what is held.
+#![tactic(auto)]
+
 ghost use Rattle.std.specs.Prelude.{◌≡◌, ℕ, ◌<◌, ◌≤◌, length, None, slice_index};
 ghost use Rattle.fields.specs.Meaning.{size};
 ghost use Rattle.codes.specs.Words.{sum};

@@ -1,4 +1,6 @@
 //! Seven symbols of GF(8) laid out as a word of eleven of the four times extended code.
+#![tactic(auto)]
+
 ghost use Rattle.std.specs.Prelude.{◌≡◌, ◌<◌, map, length, IfOk, Ok, string_bytes, OnOk, bit_xor};
 ghost use Rattle.fields.specs.Polynomials.{gf8};
 ghost use Rattle.binary_fields.specs.declared.table.Table.TheVariants.{Gf8};

@@ -10,7 +10,7 @@ loop-p-init g c = (pow_pos (g.C.Lawful.meaning c.args.code.now).field.width, ref
 pub loop-p-preserved : goal.loop-p-preserved
 loop-p-preserved g c =
     let f = (g.C.Lawful.meaning c.args.code.now).field in
-    let product = c.code-product-total in (
+    let product = c.code_product-total in (
       xor_lt f.width c.loop-p.total product.result c.loop-p.invariant.0 product.ensures.element,
       ap₂ bit_xor c.loop-p.invariant.1 (product.ensures.value ∙ ap (λ (x : ℕ). times f x (get_or c.args.word.now c.loop-p.p 0)) c.entry.ensures.value)
           ∙ sym (sum_next c.loop-p.p _),

@@ -11,7 +11,7 @@ loop-j-preserved g c =
     let j = c.loop-j.j in
     let few = (g.C.Lawful.lawful c.args.code.now).few_checks in
     let within : j < length sums = omega arith in (
-      elements_set (g.C.Lawful.meaning c.args.code.now).field sums j _ c.check-sum.ensures.element c.loop-j.invariant.0,
+      elements_set (g.C.Lawful.meaning c.args.code.now).field sums j _ c.check_sum.ensures.element c.loop-j.invariant.0,
       length-set sums j _ ∙ c.loop-j.invariant.1,
-      filled_more _ sums j _ within c.check-sum.ensures.value c.loop-j.invariant.2,
+      filled_more _ sums j _ within c.check_sum.ensures.value c.loop-j.invariant.2,
     )

@@ -12,7 +12,7 @@ pub returns-in-Err : goal.returns-in-Err
 returns-in-Err c =
     let m = c.args.message.now in
     let f = table_meaning c.field.result.now in
-    let base = c.sample-code-code.ensures in
+    let base = c.sample_code-code.ensures in
     let long : length m ≡ 7 = c.if-message-dimension.false ∙ c.dimension.ensures ∙ ap (λ (t : Table). size (table_meaning t) - 1) base in
     record {
       value = ap Err c.at.ensures
@@ -23,7 +23,7 @@ returns-in-Err c =
 pub loop-i-preserved : goal.loop-i-preserved
 loop-i-preserved c =
     let m = c.args.message.now in
-    let e : table_meaning c.field.result.now ≡ gf8 = c.field.ensures ∙ ap table_meaning c.sample-code-code.ensures in
+    let e : table_meaning c.field.result.now ≡ gf8 = c.field.ensures ∙ ap table_meaning c.sample_code-code.ensures in
     below_more (λ k. at m k < 8) c.loop-i.i c.loop-i.invariant
     (symbol_granted (table_meaning c.field.result.now) (at m c.loop-i.i) c.in-default.field-0 e c.in-default.ensures)
 
@@ -31,6 +31,6 @@ pub returns : goal.returns
 returns c =
     let m = c.args.message.now in
     let long : length m ≡ 7 =
-    c.if-message-dimension.false ∙ c.dimension.ensures ∙ ap (λ (t : Table). size (table_meaning t) - 1) c.sample-code-code.ensures in
+    c.if-message-dimension.false ∙ c.dimension.ensures ∙ ap (λ (t : Table). size (table_meaning t) - 1) c.sample_code-code.ensures in
     let M : Message sample m = record { long = long; elements = λ k h. c.loop-i.invariant k (omega arith) } in
     record { value = sym (message_granted m M); message = M }

@@ -10,7 +10,7 @@ returns c =
     let e : f ≡ gf8 = c.field-field.ensures ∙ ap table_meaning c.requires.0 in
     let x = c.args.x in
     let y = c.args.y in
-    let z = c.in-ok-product.field-0 in
+    let z = c.in_ok-product.field-0 in
     let hx = c.requires.1.1.0 in
     let hy = c.requires.1.1.1 in
-    c.sum.ensures ∙ sum_is f c.args.total x y z e c.requires.1.0 hx hy (product_granted f x y z e hx hy c.in-ok-product.ensures)
+    c.sum.ensures ∙ sum_is f c.args.total x y z e c.requires.1.0 hx hy (product_granted f x y z e hx hy c.in_ok-product.ensures)

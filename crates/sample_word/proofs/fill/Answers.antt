@@ -6,7 +6,7 @@ pub loop-p-preserved : goal.loop-p-preserved
 loop-p-preserved c =
     let l : c.loop-p.p < length c.loop-p.word = omega arith in (
       simp length-set c.loop-p.invariant.0,
-      written_more 0 (λ k. unwrap_or (get_or c.args.received.now k None) c.args.symbol) c.loop-p.word c.loop-p.p _ l c.loop-p.invariant.1 c.unwrap-or.ensures,
+      written_more 0 (λ k. unwrap_or (get_or c.args.received.now k None) c.args.symbol) c.loop-p.word c.loop-p.p _ l c.loop-p.invariant.1 c.unwrap_or.ensures,
     )
 
 pub returns : goal.returns

@@ -12,7 +12,7 @@ loop-p-preserved c =
     let l : c.loop-p.p < length c.loop-p.x-items = omega arith in (
       simp length-set c.loop-p.invariant.0,
       written_more 0 (symbol_of m) c.loop-p.x-items c.loop-p.p _ l c.loop-p.invariant.1
-          (sure _ (symbol_of m c.loop-p.p) c.in-ok-x.ensures),
+          (sure _ (symbol_of m c.loop-p.p) c.in_ok-x.ensures),
     )
 
 pub returns : goal.returns

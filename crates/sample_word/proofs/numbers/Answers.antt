@@ -12,7 +12,7 @@ returns-in-default c =
     let xs = c.args.arguments.now in
     let i = c.loop-i.i in
     let t = text_at string_bytes xs i c.index-arguments-i.result c.loop-i-test.true c.index-arguments-i.is in
-    let e : number_of (get_or (map string_bytes xs) i []) ≡ None = sym (c.in-default.ensures ∙ ap number_of (c.as-bytes.ensures.value ∙ sym t)) in
+    let e : number_of (get_or (map string_bytes xs) i []) ≡ None = sym (c.in-default.ensures ∙ ap number_of (c.as_bytes.ensures.value ∙ sym t)) in
     let l = length-map xs string_bytes in
     ap Err (c.at.ensures ∙ ap (λ (f : Fault). told_at f (i + 1)) c.line.ensures)
     ∙ sym (text_refused (map string_bytes xs) i (omega arith) c.loop-i.invariant.1 e)
@@ -23,7 +23,7 @@ loop-i-preserved c =
     let i = c.loop-i.i in
     let l : c.loop-i.i < length c.loop-i.message = omega arith in
     let t = text_at string_bytes xs i c.index-arguments-i.result c.loop-i-test.true c.index-arguments-i.is in
-    let e : number_of (get_or (map string_bytes xs) i []) ≡ Some c.in-Some.n = sym (c.in-Some.ensures ∙ ap number_of (c.as-bytes.ensures.value ∙ sym t)) in (
+    let e : number_of (get_or (map string_bytes xs) i []) ≡ Some c.in-Some.n = sym (c.in-Some.ensures ∙ ap number_of (c.as_bytes.ensures.value ∙ sym t)) in (
       simp length-set c.loop-i.invariant.0,
       below_more (λ k. is_some (number_of (get_or (map string_bytes xs) k [])) ≡ true) i c.loop-i.invariant.1 (ap (is_some {T = ℕ}) e),
       written_more 0 (λ k. unwrap_or (number_of (get_or (map string_bytes xs) k [])) 0) c.loop-i.message i c.in-Some.n l c.loop-i.invariant.2

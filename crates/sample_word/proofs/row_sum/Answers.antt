@@ -6,14 +6,14 @@ use Rattle.sample_word.proofs.row_sum.Goals as goal
 pub loop-p-init : goal.loop-p-init
 loop-p-init c = row_first c.args.check c.args.word.now
 
-pub add-product-requires : goal.add-product-requires
-add-product-requires c =
+pub add_product-requires : goal.add_product-requires
+add_product-requires c =
     let p = c.loop-p.p in
     let j = c.args.check in
     let E = c.requires.1.0 in
     let hj = c.requires.1.1 in
     let hp : p < 11 = omega arith in
-    let e = entry_granted c.args.code.now.base j p _ c.requires.0 hj hp c.in-ok-entry.ensures in (
+    let e = entry_granted c.args.code.now.base j p _ c.requires.0 hj hp c.in_ok-entry.ensures in (
       c.requires.0,
       (
         subst (λ (n : ℕ). n < 8) (sym c.loop-p.invariant) (row_below p j c.args.word.now E (omega arith) hj),
@@ -29,9 +29,9 @@ loop-p-preserved c =
     let p = c.loop-p.p in
     let j = c.args.check in
     let hp : p < 11 = omega arith in
-    row_next p j c.args.word.now c.loop-p.total c.in-ok-entry.field-0 c.in-ok-total.total c.loop-p.invariant
-    (entry_granted c.args.code.now.base j p _ c.requires.0 c.requires.1.1 hp c.in-ok-entry.ensures)
-    c.in-ok-total.ensures
+    row_next p j c.args.word.now c.loop-p.total c.in_ok-entry.field-0 c.in_ok-total.total c.loop-p.invariant
+    (entry_granted c.args.code.now.base j p _ c.requires.0 c.requires.1.1 hp c.in_ok-entry.ensures)
+    c.in_ok-total.ensures
 
 pub returns : goal.returns
 returns c = ap Ok (c.loop-p.invariant ∙ row_whole c.loop-p.p c.args.check c.args.word.now (omega arith))

@@ -11,7 +11,7 @@ loop-j-preserved c =
     let l : c.loop-j.j < length c.loop-j.sum-items = omega arith in (
       simp length-set c.loop-j.invariant.0,
       written_more 0 (λ k. row_sum k w) c.loop-j.sum-items c.loop-j.j _ l c.loop-j.invariant.1
-          (sure _ (row_sum c.loop-j.j w) c.in-ok-sum.ensures),
+          (sure _ (row_sum c.loop-j.j w) c.in_ok-sum.ensures),
     )
 
 pub returns : goal.returns

@@ -3,22 +3,22 @@ use Rattle.sample_word.specs.Sample.{Elements}
 use Rattle.sample_word.proofs.Demonstrations.{held_is, restored_is, shown_is}
 use Rattle.sample_word.proofs.work_back.Goals as goal
 
-pub row-sum-requires : goal.row-sum-requires
-row-sum-requires c = (
-  c.sample-code-code.ensures,
+pub row_sum-requires : goal.row_sum-requires
+row_sum-requires c = (
+  c.sample_code-code.ensures,
   (held_is c.args.word c.fill.result c.erase-received.result c.requires c.erase-received.ensures c.fill.ensures, lit< tt),
 )
 
-pub row-sums-requires : goal.row-sums-requires
-row-sums-requires c =
-    let back = restored_is c.args.word c.fill.result c.erase-received.result c.in-ok-symbol.symbol c.fill-restored.result
-    c.requires c.erase-received.ensures c.fill.ensures c.in-ok-symbol.ensures c.fill-restored.ensures in
-    (c.sample-code-code.ensures, subst Elements (sym back) c.requires.elements)
+pub row_sums-requires : goal.row_sums-requires
+row_sums-requires c =
+    let back = restored_is c.args.word c.fill.result c.erase-received.result c.in_ok-symbol.symbol c.fill-restored.result
+    c.requires c.erase-received.ensures c.fill.ensures c.in_ok-symbol.ensures c.fill-restored.ensures in
+    (c.sample_code-code.ensures, subst Elements (sym back) c.requires.elements)
 
 pub returns : goal.returns
 returns c =
-    let back = restored_is c.args.word c.fill.result c.erase-received.result c.in-ok-symbol.symbol c.fill-restored.result
-    c.requires c.erase-received.ensures c.fill.ensures c.in-ok-symbol.ensures c.fill-restored.ensures in
+    let back = restored_is c.args.word c.fill.result c.erase-received.result c.in_ok-symbol.symbol c.fill-restored.result
+    c.requires c.erase-received.ensures c.fill.ensures c.in_ok-symbol.ensures c.fill-restored.ensures in
     ap Ok
-    (shown_is c.args.word c.erase-received.result c.fill-restored.result c.in-ok-row-sums.row-sums
-    c.requires c.erase-received.ensures back c.in-ok-row-sums.ensures)
+    (shown_is c.args.word c.erase-received.result c.fill-restored.result c.in_ok-row_sums.row_sums
+    c.requires c.erase-received.ensures back c.in_ok-row_sums.ensures)

@@ -6,6 +6,6 @@ use Rattle.binary_fields.proofs.shift.power_254.Goals as goal
 
 pub returns : goal.returns
 returns c =
-    let e : c.shift-product.result ≡ power_254 c.args.x = cc in
-    sym (inverse_is gf256 gf256_laws c.args.x c.shift-product.result c.requires.0 c.shift-product.ensures.element
+    let e : c.shift_product.result ≡ power_254 c.args.x = cc in
+    sym (inverse_is gf256 gf256_laws c.args.x c.shift_product.result c.requires.0 c.shift_product.ensures.element
     (ap (gf256.product c.args.x) e ∙ power_254_inverts c.args.x c.requires.0 c.requires.1))

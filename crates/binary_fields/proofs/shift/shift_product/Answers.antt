@@ -17,7 +17,7 @@ loop-i-preserved c =
     let r : ℕ = c.loop-i.rest in
     let hs : s < 256 = c.loop-i.invariant.0 in
     let ha : a < 256 = c.loop-i.invariant.1 in
-    let hr : r < 256 = omega (arith, c.loop-i.invariant.2, shr_le c.args.y c.loop-i.-i) in
+    let hr : r < 256 = omega (arith, c.loop-i.invariant.2, shr_le c.args.y c.loop-i._i) in
     let mask = and_mask r 1 in
     let added : (c.if-rest-eq1.sum < 256) × (c.if-rest-eq1.sum ≡ bit_xor s (r % 2 * a)) =
     elim c.if-rest-eq1.branch [
@@ -30,7 +30,7 @@ loop-i-preserved c =
     ] in (
       added.0,
       c.doubled-shifted.ensures.element,
-      ap (λ (n : ℕ). n / 2) c.loop-i.invariant.2 ∙ shr-shr c.args.y c.loop-i.-i 1,
+      ap (λ (n : ℕ). n / 2) c.loop-i.invariant.2 ∙ shr-shr c.args.y c.loop-i._i 1,
       ap₂ (λ (t b : ℕ). bit_xor t (gf256.product b (r / 2))) added.1 c.doubled-shifted.ensures.value
           ∙ xor_assoc s (r % 2 * a) (gf256.product (gf256.product 2 a) (r / 2))
           ∙ ap (bit_xor s) (sym (lowest_term a r ha hr))
@@ -41,7 +41,7 @@ pub returns : goal.returns
 returns c =
     let s : ℕ = c.loop-i.sum in
     let a : ℕ = c.loop-i.shifted in
-    let eight : c.loop-i.-i ≡ 8 = omega arith in
+    let eight : c.loop-i._i ≡ 8 = omega arith in
     let over : c.loop-i.rest ≡ c.args.y / 2 ^ 8 = c.loop-i.invariant.2 ∙ ap (λ (i : ℕ). c.args.y / 2 ^ i) eight in
     let none : 0 ≡ c.loop-i.rest = omega (arith, over) in
     record {

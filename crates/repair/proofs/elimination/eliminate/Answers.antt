@@ -31,7 +31,7 @@ loop-p-preserved g c =
           subst₃ (Eliminated m.field m.checks h s state (p + 1)) (sym w.rows-is) (sym w.pivots-is) (sym w.determined-is)
           (eliminated_held m.field L m.checks h s state p c.loop-p.rows c.loop-p.pivots c.loop-p.determined c.loop-p.invariant _ (sym w.in-Some.ensures))
       | in-None w ↦
-          let used = w.use-row-for-determined in
+          let used = w.use_row_for-determined in
           subst₃ (Eliminated m.field m.checks h s state (p + 1)) (sym w.rows-is) (sym w.pivots-is) (sym w.determined-is)
           (eliminated_lost m.field L m.checks h s state p c.loop-p.rows c.loop-p.pivots c.loop-p.determined c.loop-p.invariant _ _ used.result long
           (sym w.in-None.ensures) used.ensures.elements used.ensures.used)

@@ -10,7 +10,7 @@ loop-i-preserved g c =
     let combined = c.loop-i.combined in
     let i = c.loop-i.i in
     let within : i < length combined = omega arith in (
-      elements_set (g.F.Field.meaning c.args.field.now) combined i _ c.dot-product.ensures.element c.loop-i.invariant.0,
+      elements_set (g.F.Field.meaning c.args.field.now) combined i _ c.dot_product.ensures.element c.loop-i.invariant.0,
       length-set combined i _ ∙ c.loop-i.invariant.1,
-      filled_more _ combined i _ within c.dot-product.ensures.value c.loop-i.invariant.2,
+      filled_more _ combined i _ within c.dot_product.ensures.value c.loop-i.invariant.2,
     )

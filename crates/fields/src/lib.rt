@@ -12,6 +12,8 @@ use faults::{Fault, FieldCause, Layer};
 pub trait Field {
     ghost meaning: { Self → FieldMeaning };
 
+    ghost lawful: { (f : Self) → FieldLaws (meaning f) };
+
     /// How many bits an element has, from 1 to 8.
     fn width(&self) -> u8
         ensures { result ≡ (meaning self.now).width };
@@ -45,6 +47,4 @@ pub trait Field {
     /// The non-zero element of number `i`; 13 where `i` is q - 1 or more.
     fn roll(&self, i: u16) -> Result<u16, Fault>
         ensures { result ≡ roll_answer (meaning self.now) i };
-
-    ghost lawful: { (f : Self) → FieldLaws (meaning f) };
 }

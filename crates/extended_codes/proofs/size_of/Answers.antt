@@ -7,7 +7,7 @@ pub returns : goal.returns
 returns g c =
     let p = c.args.base.now in
     let f : FieldMeaning = g.B.Field.meaning p in
-    let L : FieldLaws f = g.met.B.Field.lawful p in
+    let L : FieldLaws f = g.B.Field.lawful p in
     let e : (1 * 2 ^ c.width.result) % 2 ^ 64 ≡ size f = order_is f L c.width.result c.width.ensures in
     record {
       value = e;

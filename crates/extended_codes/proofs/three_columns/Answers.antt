@@ -7,6 +7,6 @@ returns g c =
     let p = c.args.base.now in
     record {
       value = refl;
-      independent = three_independent (g.B.Field.meaning p) (g.met.B.Field.lawful p);
-      apart = three_tell_apart (g.B.Field.meaning p) (g.met.B.Field.lawful p);
+      independent = three_independent (g.B.Field.meaning p) (g.B.Field.lawful p);
+      apart = three_tell_apart (g.B.Field.meaning p) (g.B.Field.lawful p);
     }

@@ -8,7 +8,7 @@ pub returns-in_err-n : goal.returns-in_err-n
 returns-in_err-n g c =
     let p = c.args.base.now in
     let f : FieldMeaning = g.F.Field.meaning p in
-    let L : FieldLaws f = g.met.F.Field.lawful p in
+    let L : FieldLaws f = g.F.Field.lawful p in
     let w : ℕ = c.width-w.result in
     let ew : w ≡ f.width = c.width-w.ensures in
     let q = err_from_is_err_and c.from_residual.result c.from_residual.ensures.1 in
@@ -18,7 +18,7 @@ pub returns-in_err-inverse : goal.returns-in_err-inverse
 returns-in_err-inverse g c =
     let p = c.args.base.now in
     let f : FieldMeaning = g.F.Field.meaning p in
-    let L : FieldLaws f = g.met.F.Field.lawful p in
+    let L : FieldLaws f = g.F.Field.lawful p in
     let w : ℕ = c.width-w.result in
     let ew : w ≡ f.width = c.width-w.ensures in
     let q = err_from_is_err_and c.from_residual-in_err-inverse.result c.from_residual-in_err-inverse.ensures.1 in
@@ -29,21 +29,21 @@ pub returns-in_err-up : goal.returns-in_err-up
 returns-in_err-up g c =
     let p = c.args.base.now in
     let f : FieldMeaning = g.F.Field.meaning p in
-    let L : FieldLaws f = g.met.F.Field.lawful p in
+    let L : FieldLaws f = g.F.Field.lawful p in
     absurd ((inverse_times_granted f L _ _ c.in_ok-n.n c.in_ok-inverse.inverse _ c.in_ok-n.ensures c.in_ok-inverse.ensures).0 c.in_err-up.ensures)
 
 pub returns-in_err-down : goal.returns-in_err-down
 returns-in_err-down g c =
     let p = c.args.base.now in
     let f : FieldMeaning = g.F.Field.meaning p in
-    let L : FieldLaws f = g.met.F.Field.lawful p in
+    let L : FieldLaws f = g.F.Field.lawful p in
     absurd ((inverse_times_granted f L _ _ c.in_ok-n.n c.in_ok-inverse.inverse _ c.in_ok-n.ensures c.in_ok-inverse.ensures).1 c.in_err-down.ensures)
 
 pub returns : goal.returns
 returns g c =
     let p = c.args.base.now in
     let f : FieldMeaning = g.F.Field.meaning p in
-    let L : FieldLaws f = g.met.F.Field.lawful p in
+    let L : FieldLaws f = g.F.Field.lawful p in
     let w : ℕ = c.width-w.result in
     let ew : w ≡ f.width = c.width-w.ensures in
     inverse_stands f L w ew c.requires c.args.x _ _ (halves f L w ew c.requires c.args.x)

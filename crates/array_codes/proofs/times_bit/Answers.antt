@@ -6,4 +6,4 @@ pub returns : goal.returns
 returns g c =
     let p = c.args.code.now in
     c.product.ensures
-    ∙ times_bit_is (g.V.Lawful.meaning p) (g.V.Lawful.lawful p) (g.F.Field.meaning c.field.result.now) c.field.ensures c.args.x c.args.b c.requires.0 c.requires.1
+    ∙ times_bit_is (g.V.Lawful.meaning p) (g.V.Lawful.lawful p) (g.V.F.Field.meaning c.field.result.now) c.field.ensures c.args.x c.args.b c.requires.0 c.requires.1

@@ -25,7 +25,7 @@ loop-i-preserved c =
     let m = c.args.message.now in
     let e : table_meaning c.field.result.now ≡ gf8 = c.field.ensures ∙ ap table_meaning c.sample_code-code.ensures in
     below_more (λ k. at m k < 8) c.loop-i.i c.loop-i.invariant
-    (symbol_granted (table_meaning c.field.result.now) (at m c.loop-i.i) c.in-default.field-0 e c.in-default.ensures)
+    (symbol_granted (table_meaning c.field.result.now) (at m c.loop-i.i) c.in_default.field-0 e c.in_default.ensures)
 
 pub returns : goal.returns
 returns c =

@@ -7,12 +7,12 @@ use Rattle.sample_word.proofs.Refusals.{text_at, text_refused, texts_granted}
 use Rattle.sample_word.proofs.Lists.{written_more}
 use Rattle.sample_word.proofs.numbers.Goals as goal
 
-pub returns-in-default : goal.returns-in-default
-returns-in-default c =
+pub returns-in_default : goal.returns-in_default
+returns-in_default c =
     let xs = c.args.arguments.now in
     let i = c.loop-i.i in
     let t = text_at string_bytes xs i c.index-arguments-i.result c.loop-i-test.true c.index-arguments-i.is in
-    let e : number_of (get_or (map string_bytes xs) i []) ≡ None = sym (c.in-default.ensures ∙ ap number_of (c.as_bytes.ensures.value ∙ sym t)) in
+    let e : number_of (get_or (map string_bytes xs) i []) ≡ None = sym (c.in_default.ensures ∙ ap number_of (c.as_bytes.ensures.value ∙ sym t)) in
     let l = length-map xs string_bytes in
     ap Err (c.at.ensures ∙ ap (λ (f : Fault). told_at f (i + 1)) c.line.ensures)
     ∙ sym (text_refused (map string_bytes xs) i (omega arith) c.loop-i.invariant.1 e)

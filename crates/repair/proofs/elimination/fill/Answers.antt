@@ -2,7 +2,7 @@ use Rattle.std.proofs.Common.{◌≡◌, ℕ, ◌+◌, ◌<◌, length, sym, ref
 use Rattle.erasures.specs.Rows.{Filled}
 use Rattle.erasures.proofs.Rows.{filled_row, filled_none}
 use Rattle.repair.proofs.elimination.fill.Goals as goal
-use Rattle.repair.proofs.elimination.fill.Goals.{in-Some, in-default}
+use Rattle.repair.proofs.elimination.fill.Goals.{in-Some, in_default}
 
 pub bounds-word-p : goal.bounds-word-p
 bounds-word-p c = let h = c.requires.within c.loop-i.i c.in-Some.p c.loop-i-test.true c.in-Some.is in omega arith
@@ -25,7 +25,7 @@ loop-i-preserved c =
           subst (Filled (length rows) rows pivots (i + 1) c.args.word.now) (sym w.word-is)
           (filled_row (length rows) rows pivots c.args.word.now c.loop-i.word i c.loop-i.invariant p room w.in-Some.is
           (λ o l e. let same = c.requires.once o i p (omega arith) c.loop-i-test.true e w.in-Some.is in omega arith))
-      | in-default w ↦
+      | in_default w ↦
           subst (Filled (length rows) rows pivots (i + 1) c.args.word.now) (sym w.word-is)
-          (filled_none (length rows) rows pivots c.args.word.now c.loop-i.word i c.loop-i.invariant w.in-default.not-Some)
+          (filled_none (length rows) rows pivots c.args.word.now c.loop-i.word i c.loop-i.invariant w.in_default.not-Some)
     ]

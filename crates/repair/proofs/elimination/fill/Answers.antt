@@ -7,8 +7,8 @@ use Rattle.repair.proofs.elimination.fill.Goals.{in-Some, in_default}
 pub bounds-word-p : goal.bounds-word-p
 bounds-word-p c = let h = c.requires.within c.loop-i.i c.in-Some.p c.loop-i-test.true c.in-Some.is in omega arith
 
-pub offset-bounds-word-p : goal.offset-bounds-word-p
-offset-bounds-word-p c =
+pub offset_bounds-word-p : goal.offset_bounds-word-p
+offset_bounds-word-p c =
     let h : c.in-Some.p < 512 = c.requires.within c.loop-i.i c.in-Some.p c.loop-i-test.true c.in-Some.is in
     search rules
 

@@ -1,17 +1,17 @@
 -- The entries of an array as the code works them out.
-use Rattle.std.proofs.Common.{◌≡◌, ℕ, ◌+◌, ◌-◌, ◌*◌, ◌/◌, ◌%◌, ◌^◌, ◌<◌, ◌≤◌, Bool, true, false, cond, T, ltb, Ok, Err, Result, sym, refl, ap, ◌∙◌, subst, ap₂, subst₂, mul-le-mul, arith, ltb→lt, lt→ltb}
+use Rattle.std.proofs.Common.{◌≡◌, ℕ, ◌+◌, ◌-◌, ◌*◌, ◌/◌, ◌%◌, ◌^◌, ◌<◌, ◌≤◌, Bool, true, false, cond, T, ltb, Ok, Err, Result, sym, refl, ap, ◌∙◌, subst, ap₂, subst₂, mul-le-mul, arith, lt→ltb}
 use lib.Bits.{bit_and, and_mask}
 use lib.Pow.{pow-lt}
 use Rattle.std.proofs.lemmas.Nat.{one_shl, div_below, mod_below}
 use Rattle.std.proofs.lemmas.Bool.{cond-true, cond-false, lt-ltb, le-ltb}
 use Rattle.faults.specs.declared.Fault.{Fault}
 use Rattle.faults.specs.Table.{no_check, no_place, no_message_index}
-use Rattle.fields.specs.Meaning.{FieldMeaning, FieldLaws, size}
+use Rattle.fields.specs.Meaning.{FieldMeaning, size}
 use Rattle.fields.specs.Answers.{product_answer}
 use Rattle.fields.proofs.Answered.{product_answered}
-use Rattle.codes.specs.Words.{CodeMeaning, CodeLaws, Generates, sum}
+use Rattle.codes.specs.Words.{CodeMeaning, CodeLaws}
 use Rattle.codes.specs.Answers.{entry_answer, message_place_answer, generator_answer}
-use Rattle.codes.specs.Arrays.{bit, array, array_fits, array_places, array_checks, array_dimension, array_entry, array_message_place, array_generator, generated_bit}
+use Rattle.codes.specs.Arrays.{bit, array, array_fits, array_places, array_checks, array_dimension, array_entry, array_generator}
 
 -- two results are one
 abbrev Same : Result ℕ Fault → Result ℕ Fault → Type 0

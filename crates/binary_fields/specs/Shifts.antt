@@ -1,14 +1,14 @@
 -- The products by shifts in the field of 256 elements.
-use Rattle.std.specs.Prelude.{◌≡◌, refl, Bool, ◌||◌, ℕ, zero, suc, ◌+◌, ◌-◌, ◌*◌, ◌/◌, ◌%◌, ◌^◌, ◌<◌, ◌≤◌, T, eqb}
-use Rattle.std.proofs.Common.{sym, ap, ap₂, subst, ◌∙◌, zero-mul, one-mul, mul_comm, arith, eqb→eq, lit<}
-use Rattle.std.specs.Int.Bits.{bit_xor, xor_assoc, xor_zero_r, xor_shifted}
-use Rattle.std.proofs.lemmas.Nat.{xor_comm, xor_lt}
+use Rattle.std.specs.Prelude.{◌≡◌, ◌||◌, ℕ, zero, suc, ◌*◌, ◌/◌, ◌%◌, ◌^◌, ◌<◌, ◌≤◌, eqb}
+use Rattle.std.proofs.Common.{sym, ap, ap₂, ◌∙◌, zero-mul, one-mul, arith, eqb→eq, lit<}
+use Rattle.std.specs.Int.Bits.{bit_xor, xor_zero_r, xor_shifted}
+use Rattle.std.proofs.lemmas.Nat.{xor_comm}
 use Rattle.std.proofs.Math.Pow.{split}
 use Rattle.fields.specs.Meaning.{FieldLaws}
 use Rattle.fields.specs.Polynomials.{coefficient, carryless, remainder, product_modulo, gf256}
-use Rattle.fields.proofs.Tests.{all, at}
+use Rattle.fields.proofs.Tests.{at}
 use Rattle.fields.proofs.Identities.{times_one, times_zero}
-use Rattle.fields.proofs.PolynomialLaws.{polynomial_laws, gf256_computed, twice, twice_is, twice_below, unless_zero}
+use Rattle.fields.proofs.PolynomialLaws.{polynomial_laws, gf256_computed, twice, twice_is, unless_zero}
 
 pub gf256_laws : FieldLaws gf256
 gf256_laws = polynomial_laws 8 0x11d 32 gf256_computed

@@ -1,5 +1,5 @@
 -- The array over a lawful code is lawful: its words are the words of the code, each symbol by its bits and their parity.
-use Rattle.std.proofs.Common.{◌≡◌, ℕ, zero, suc, ◌+◌, ◌-◌, ◌*◌, ◌/◌, ◌%◌, ◌^◌, ◌<◌, ◌≤◌, Bool, true, false, cond, ◌&&◌, T, eqb, ltb, leb, ◌⊎◌, List, [], ◌∷◌, length, sym, refl, ap, ◌∙◌, subst, ap₂, inl, inr, ⊎_elim, zero-le, le_refl, add-zero, mul_comm, mul-zero, div-add-mod', zero-mul, mul-one, add-one, arith, lit<}
+use Rattle.std.proofs.Common.{◌≡◌, ℕ, ◌+◌, ◌-◌, ◌*◌, ◌/◌, ◌%◌, ◌^◌, ◌<◌, ◌≤◌, Bool, true, false, cond, eqb, ltb, leb, List, [], sym, refl, ap, ◌∙◌, subst, ap₂, ⊎_elim, zero-le, le_refl, mul_comm, mul-zero, div-add-mod', mul-one, add-one, arith, lit<}
 use lib.Arith.{digits_lt}
 use lib.Bits.{bit_xor, xor_self, xor_zero_r}
 use Rattle.std.proofs.lemmas.Nat.{div_below, mod_below, div-mul-add, mod-mul-add}

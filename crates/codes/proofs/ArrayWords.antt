@@ -1,15 +1,14 @@
 -- The words of an array are the rows of the words of its code, and its generator is the bits of the code's.
-use Rattle.std.proofs.Common.{◌≡◌, ℕ, ◌+◌, ◌*◌, ◌/◌, ◌%◌, ◌^◌, ◌<◌, ◌≤◌, Bool, true, false, cond, ltb, List, sym, refl, ap, ◌∙◌, subst, ap₂, ⊎_elim, le_refl, arith}
-use lib.Arith.{digits_lt}
+use Rattle.std.proofs.Common.{◌≡◌, ℕ, ◌+◌, ◌*◌, ◌/◌, ◌%◌, ◌^◌, ◌<◌, ◌≤◌, Bool, true, false, cond, ltb, List, sym, ap, ◌∙◌, subst, ap₂, ⊎_elim, le_refl, arith}
 use Rattle.std.proofs.lemmas.Nat.{div-mul-add, mod-mul-add}
 use Rattle.std.proofs.lemmas.Bool.{cases_lt, cond-true, cond-false, cond_both, lt-ltb, le-ltb}
-use Rattle.fields.specs.Meaning.{FieldMeaning, FieldLaws, size}
+use Rattle.fields.specs.Meaning.{FieldMeaning, size}
 use Rattle.codes.specs.Words.{CodeMeaning, CodeLaws, Generates, Word, sum, at}
-use Rattle.codes.specs.Arrays.{bit, array_if, array_fits, array, array_places, array_message_place, generated_bit, array_generator, rows_of}
+use Rattle.codes.specs.Arrays.{bit, array_if, array_fits, array, array_message_place, generated_bit, array_generator, rows_of}
 use Rattle.codes.specs.Theorems.{WordsAreRows}
 use Rattle.codes.proofs.Sums.{sum_cong, sum_below, sum_grid, sum_swap, length_build, same_at}
 use Rattle.codes.proofs.Digits.{bit_below, bit_sum, digit_sum, pack, pack_below, in_grid, product_pack}
-use Rattle.codes.proofs.ArrayLaws.{cell, cells, symbols_of, symbol_is, word_down, last_is, cell_is, word_up, cell_bit, cell_last, place_below, array_laws}
+use Rattle.codes.proofs.ArrayLaws.{cell, cells, symbols_of, symbol_is, word_down, last_is, cell_is, word_up, cell_bit, cell_last, place_below}
 
 module _ (m : CodeMeaning) (K : CodeLaws m) where
   abbrev f : FieldMeaning

@@ -1,8 +1,7 @@
 -- Numbers by their bits.
-use Rattle.std.proofs.Common.{◌≡◌, ℕ, zero, suc, ◌+◌, ◌-◌, ◌*◌, ◌/◌, ◌%◌, ◌^◌, ◌<◌, ◌≤◌, ◌⊎◌, sym, refl, ap, ◌∙◌, subst, ap₂, inl, inr, ⊎_elim, mod-lt, mod-eq_of_lt, mul_assoc, add_comm, one-mul, mul-zero, div-add-mod', zero-mul, mul-one, add-one, one-add, arith, lit<, pow_pos, pow-add}
+use Rattle.std.proofs.Common.{◌≡◌, ℕ, zero, suc, ◌+◌, ◌-◌, ◌*◌, ◌/◌, ◌%◌, ◌^◌, ◌<◌, sym, ap, ◌∙◌, subst, ⊎_elim, mod-lt, mod-eq_of_lt, mul_assoc, one-mul, mul-zero, div-add-mod', zero-mul, one-add, arith, lit<, pow_pos, pow-add}
 use native.Mathlib.Nat.{zero-div, div-eq_of_lt, mod-one}
-use lib.Arith.{digits_lt}
-use lib.Bits.{bit_xor, xor_comm, xor_zero_r, xor_shr, xor_mod, xor_shifted, shifted_even}
+use lib.Bits.{bit_xor, xor_comm, xor_shr, xor_mod, xor_shifted, shifted_even}
 use lib.Pow.{pow-lt, shl-shr, mod-pow-add}
 use Rattle.std.proofs.lemmas.Bool.{cases_order}
 use Rattle.std.proofs.lemmas.Nat.{div_below, mod_below}

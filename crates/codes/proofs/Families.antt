@@ -1,10 +1,9 @@
 -- Single parity and the four times extended code are lawful.
-use Rattle.std.proofs.Common.{◌≡◌, ℕ, zero, suc, ◌+◌, ◌-◌, ◌*◌, ◌%◌, ◌^◌, ◌<◌, ◌≤◌, Bool, true, false, cond, eqb, ltb, ◌⊎◌, sym, refl, ap, ◌∙◌, subst, ap₂, inl, inr, ⊎_elim, le_refl, arith, lit≤, pow_mono}
+use Rattle.std.proofs.Common.{◌≡◌, ℕ, zero, suc, ◌+◌, ◌-◌, ◌*◌, ◌%◌, ◌^◌, ◌<◌, ◌≤◌, cond, ltb, sym, refl, ap, ◌∙◌, subst, arith, lit≤, pow_mono}
 use Rattle.std.proofs.lemmas.Nat.{one_shl}
-use Rattle.std.proofs.lemmas.Bool.{cond-true, cond-false, eq-eqb, ne_eqb}
 use Rattle.fields.specs.Meaning.{FieldMeaning, FieldLaws, size}
-use Rattle.fields.proofs.Identities.{one_below, zero_below}
-use Rattle.codes.specs.Words.{CodeMeaning, CodeLaws, Generates, Word, at}
+use Rattle.fields.proofs.Identities.{one_below}
+use Rattle.codes.specs.Words.{CodeLaws, Generates}
 use Rattle.codes.specs.Systematic.{parity, parity_generator, power_of, unit, point, four_entry, four_times, four_generator}
 use Rattle.codes.proofs.Sums.{then_at, then_low, then_high}
 use Rattle.codes.proofs.Systematic.{Tailed, systematic_laws, systematic_generates, same_generates, placed, unit_own, unit_other, unit_below}

@@ -1,9 +1,9 @@
 -- The sum of two words of a code is a word.
-use Rattle.std.proofs.Common.{◌≡◌, ℕ, zero, suc, ◌+◌, ◌^◌, ◌<◌, ◌≤◌, List, [], ◌∷◌, length, sym, refl, ap, ◌∙◌, subst, ap₂, suc-ne-zero}
+use Rattle.std.proofs.Common.{◌≡◌, ℕ, zero, suc, ◌<◌, List, [], ◌∷◌, length, sym, refl, ap, ◌∙◌, subst, ap₂, suc-ne-zero}
 use native.Mathlib.Nat.{suc_inj}
-use lib.Bits.{bit_xor, xor_lt, xor_zero_r}
+use lib.Bits.{bit_xor, xor_lt}
 use Rattle.fields.specs.Meaning.{size}
-use Rattle.codes.specs.Words.{CodeMeaning, CodeLaws, Word, sum, at}
+use Rattle.codes.specs.Words.{CodeMeaning, CodeLaws, at}
 use Rattle.codes.specs.Arrays.{build}
 use Rattle.codes.specs.Theorems.{plus, SumIsWord, MessageTellsWord}
 use Rattle.codes.proofs.Sums.{sum_cong, sum_xor, length_build, at_build}

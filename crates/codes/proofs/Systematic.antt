@@ -1,13 +1,13 @@
 -- A code whose message is its first k places, and whose last r columns are the unit columns, is lawful.
-use Rattle.std.proofs.Common.{◌≡◌, ℕ, zero, suc, ◌+◌, ◌-◌, ◌^◌, ◌<◌, ◌≤◌, eqb, ◌⊎◌, List, [], ◌∷◌, length, sym, refl, ap, ◌∙◌, subst, ap₂, inl, inr, ⊎_elim, add-sub_of_le, arith}
-use lib.Bits.{bit_xor, xor_self, xor_zero_r}
+use Rattle.std.proofs.Common.{◌≡◌, ℕ, ◌+◌, ◌-◌, ◌<◌, ◌≤◌, eqb, List, sym, refl, ap, ◌∙◌, subst, ap₂, ⊎_elim, add-sub_of_le, arith}
+use lib.Bits.{bit_xor, xor_self}
 use Rattle.std.proofs.lemmas.Bool.{cases_lt, cond-true, cond-false, cond_both, eq-eqb, ne_eqb}
 use Rattle.fields.specs.Meaning.{FieldMeaning, FieldLaws, size}
 use Rattle.fields.proofs.Identities.{zero_times, times_zero, times_one, one_below, zero_below}
 use Rattle.codes.specs.Words.{CodeMeaning, CodeLaws, Generates, Word, Message, Carries, sum, at}
 use Rattle.codes.specs.Systematic.{unit}
 use Rattle.codes.specs.Arrays.{build}
-use Rattle.codes.proofs.Sums.{xor_same, sum_cong, sum_zero, sum_below, sum_one, sum_split, length_build, at_build, same_at, then_at, then_low, then_high}
+use Rattle.codes.proofs.Sums.{xor_same, sum_cong, sum_below, sum_one, sum_split, length_build, at_build, same_at, then_at, then_low, then_high}
 
 abbrev pub systematic : FieldMeaning → ℕ → ℕ → ℕ → (ℕ → ℕ → ℕ) → CodeMeaning
 systematic f n k r e = record { field = f; places = n; checks = r; dimension = k; entry = e; message_place = λ i. i }

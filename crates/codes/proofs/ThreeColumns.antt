@@ -1,16 +1,16 @@
 -- A word of the four times extended code that is zero outside three places is zero.
-use Rattle.std.proofs.Common.{◌≡◌, ℕ, zero, suc, ◌+◌, ◌-◌, ◌^◌, ◌<◌, ◌≤◌, ◌⊎◌, List, [], ◌∷◌, length, sym, refl, ap, ◌∙◌, subst, ap₂, inl, inr, ⊎_elim, add-sub_of_le, arith, lit<}
+use Rattle.std.proofs.Common.{◌≡◌, ℕ, zero, suc, ◌+◌, ◌-◌, ◌<◌, ◌≤◌, List, [], ◌∷◌, sym, refl, ap, ◌∙◌, subst, ap₂, ⊎_elim, arith, lit<}
 use lib.Bits.{bit_xor, xor_zero_r, xor_self}
 use Rattle.std.proofs.lemmas.Bool.{cases_lt, cases_eq, cases_order}
 use Rattle.fields.specs.Meaning.{FieldMeaning, FieldLaws, size}
 use Rattle.fields.proofs.Identities.{Expr, var, nought, one, eval, solve, Bounded, times_zero, one_below, xor_below}
 use Rattle.fields.proofs.Identities as s
-use Rattle.codes.specs.Words.{CodeMeaning, CodeLaws, Word, sum, at}
+use Rattle.codes.specs.Words.{Word, sum, at}
 use Rattle.codes.specs.Systematic.{power_of, point, four_entry, four_times}
 use Rattle.codes.specs.Theorems.{plus, ButThree, ThreeIndependent, ThreeTellApart}
 use Rattle.codes.proofs.Sums.{xor_same, sum_zero, sum_one, sum_two, sum_three, same_at}
-use Rattle.codes.proofs.Systematic.{systematic, tail_of, tail_is, placed}
-use Rattle.codes.proofs.Families.{size_some, point_below, point_nonzero, point_apart, power_below, entry_point, four_tailed, four_long, four_times_laws}
+use Rattle.codes.proofs.Systematic.{systematic, tail_is, placed}
+use Rattle.codes.proofs.Families.{point_below, point_nonzero, point_apart, power_below, entry_point, four_tailed, four_long, four_times_laws}
 use Rattle.codes.proofs.Plus.{at_plus, sum_is_word}
 
 abbrev X : Expr

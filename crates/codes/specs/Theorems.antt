@@ -1,6 +1,6 @@
 -- What is proved of the words of every code, of every array, and of the four times extended code over every field.
 use Rattle.std.specs.Prelude.{◌≡◌, ℕ, ◌+◌, ◌<◌, true, List, [], ◌∷◌, ◌≢◌, bit_xor}
-use Rattle.fields.specs.Meaning.{FieldMeaning, FieldLaws, size}
+use Rattle.fields.specs.Meaning.{FieldMeaning, size}
 use Rattle.codes.specs.Words.{CodeMeaning, Word, at}
 use Rattle.codes.specs.Systematic.{four_times}
 use Rattle.codes.specs.Arrays.{array, array_fits, rows_of}

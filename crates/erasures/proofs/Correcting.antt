@@ -1,5 +1,5 @@
 -- What the rows tell of the corrections when all n places are gone through.
-use Rattle.std.proofs.Common.{◌≡◌, ℕ, zero, suc, ◌+◌, ◌^◌, ◌<◌, ◌≤◌, ◌⊎◌, Some, None, Option, sym, refl, ap, ◌∙◌, subst, ap₂, inl, inr, ⊎_elim, arith, pow_pos}
+use Rattle.std.proofs.Common.{◌≡◌, ℕ, zero, suc, ◌^◌, ◌<◌, ◌⊎◌, Some, None, Option, sym, refl, ap, ◌∙◌, subst, ap₂, inl, inr, ⊎_elim, arith, pow_pos}
 use lib.Bits.{bit_xor, xor_comm, xor_assoc, xor_self, xor_zero_r, xor_lt}
 use Rattle.std.proofs.lemmas.Bool.{cases_eq, cases_lt}
 use Rattle.codes.specs.Words.{sum}
@@ -7,7 +7,7 @@ use Rattle.codes.specs.Systematic.{unit}
 use Rattle.codes.proofs.Sums.{xor_same, sum_cong, sum_zero, sum_below, sum_one, sum_two}
 use Rattle.codes.proofs.Systematic.{unit_own, unit_other}
 use Rattle.erasures.specs.Agreement.{State}
-use Rattle.erasures.specs.Elimination.{Times, dot, Corrects, Reduced, Undetermined}
+use Rattle.erasures.specs.Elimination.{Times, dot, Corrects, Reduced}
 use Rattle.erasures.proofs.Products.{mul-zero, zero-mul, dot_below, dot_sum, dot_columns}
 use Rattle.erasures.proofs.Reducing.{some_none, some_some}
 

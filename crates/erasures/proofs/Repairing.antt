@@ -1,16 +1,14 @@
 -- From corrections to the words that agree with what is held.
-use Rattle.std.proofs.Common.{◌≡◌, ℕ, zero, suc, ◌+◌, ◌^◌, ◌<◌, ◌≤◌, Bool, true, false, ◌⊎◌, List, [], length, get_or, Some, None, Option, sym, refl, ap, ◌∙◌, subst, ap₂, inl, inr, ⊎_elim, arith, pow_pos}
+use Rattle.std.proofs.Common.{◌≡◌, ℕ, ◌<◌, Bool, true, false, List, length, Some, None, Option, sym, ap, ◌∙◌, subst, ap₂, ⊎_elim, arith, pow_pos}
 use lib.Bits.{bit_xor, xor_assoc, xor_self, xor_zero_r, xor_lt}
-use Rattle.std.proofs.lemmas.Bool.{cases_lt}
 use Rattle.fields.specs.Meaning.{size}
 use Rattle.fields.proofs.Identities.{one_below, zero_below}
 use Rattle.codes.specs.Words.{CodeMeaning, CodeLaws, Word, sum, at}
 use Rattle.codes.specs.Arrays.{build}
 use Rattle.codes.proofs.Sums.{sum_cong, sum_xor, length_build, at_build, same_at}
 use Rattle.erasures.specs.Agreement.{State, held, holding, Agrees, NoWordAgrees, TheOneWord, TwoWords}
-use Rattle.erasures.specs.Elimination.{times, Times, Corrects, Reduced, received, tail, cell, pivot_of, Determined, Contradicted, Eliminated}
+use Rattle.erasures.specs.Elimination.{times, Times, Corrects, received, tail, cell, pivot_of, Determined, Contradicted, Eliminated}
 use Rattle.erasures.proofs.Products.{times_is, times_laws}
-use Rattle.erasures.proofs.Reducing.{some_none}
 use Rattle.erasures.proofs.Correcting.{option_cases, none_corrects, row_corrects, only_corrects, chosen, chosen_there, chosen_corrects}
 use Rattle.erasures.proofs.Agreeing.{held_some, agree_or_differ}
 

@@ -1,10 +1,9 @@
 -- Loops over the elements of a row, and over rows.
-use Rattle.std.proofs.Common.{◌≡◌, ℕ, zero, suc, ◌+◌, ◌-◌, ◌<◌, ◌≤◌, ◌⊎◌, List, [], ◌∷◌, length, get_or, take, set, replicate, Some, Option, sym, refl, ap, ◌∙◌, subst, inl, inr, ⊎_elim, arith, length-set, length-take, get_or-set_other, get_or-take, get_or-set_same, pow_pos}
+use Rattle.std.proofs.Common.{◌≡◌, ℕ, zero, suc, ◌+◌, ◌-◌, ◌<◌, ◌≤◌, List, [], ◌∷◌, length, get_or, take, set, replicate, Some, Option, sym, refl, ap, ◌∙◌, ⊎_elim, arith, length-set, length-take, get_or-set_other, get_or-take, get_or-set_same, pow_pos}
 use lib.ListN.{length-replicate}
 use lib.Seq.{set_out}
 use lib.Bits.{bit_xor}
 use Rattle.std.proofs.lemmas.Bool.{cases_eq, cases_lt}
-use Rattle.std.proofs.lemmas.List.{get_or_past, get_or-replicate}
 use Rattle.fields.specs.Meaning.{FieldMeaning, size}
 use Rattle.erasures.specs.Elimination.{times, Elements, cell, tail, pivot_of}
 use Rattle.erasures.specs.Rows.{UnitRow, Filled}

@@ -1,5 +1,5 @@
 -- Functions that keep the exclusive or: what they do at the powers of two, they do at every number.
-use Rattle.std.proofs.Common.{◌≡◌, ℕ, zero, suc, ◌+◌, ◌*◌, ◌/◌, ◌%◌, ◌^◌, ◌<◌, Bool, T, eqb, ltb, sym, refl, ap, ◌∙◌, subst, ap₂, suc-le-suc, le_refl, lt_of_lt_of_le, le_of_suc-le-suc, not-suc-le-zero, add-zero, mod-lt, one-mul, zero-mul, one-add, lit<, pow_pos, shr_lt}
+use Rattle.std.proofs.Common.{◌≡◌, ℕ, zero, suc, ◌*◌, ◌/◌, ◌%◌, ◌^◌, ◌<◌, Bool, T, eqb, ltb, sym, ap, ◌∙◌, subst, ap₂, suc-le-suc, le_refl, lt_of_lt_of_le, le_of_suc-le-suc, not-suc-le-zero, add-zero, mod-lt, one-mul, zero-mul, one-add, lit<, pow_pos, shr_lt}
 use native.Mathlib.Nat.{le-suc}
 use lib.Arith.{lt-one}
 use lib.Pow.{split}

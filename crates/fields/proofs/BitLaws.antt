@@ -1,5 +1,5 @@
 -- The numbers 0 and 1 are a field.
-use Rattle.std.proofs.Common.{◌≡◌, ℕ, zero, suc, ◌+◌, ◌*◌, ◌^◌, ◌<◌, sym, ap, ◌∙◌, subst, mul_assoc, mul_comm, one-mul, zero-mul, arith, lit<, lit≤}
+use Rattle.std.proofs.Common.{◌≡◌, ℕ, zero, suc, ◌*◌, ◌<◌, sym, ap, subst, mul_assoc, mul_comm, one-mul, zero-mul, arith, lit<, lit≤}
 use lib.Bits.{bit_xor}
 use Rattle.fields.specs.Meaning.{FieldLaws}
 use Rattle.fields.specs.Polynomials.{gf2}

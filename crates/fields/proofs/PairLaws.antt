@@ -1,12 +1,12 @@
 -- The pairs over a field are a field.
-use Rattle.std.proofs.Common.{◌≡◌, ℕ, zero, suc, ◌+◌, ◌*◌, ◌/◌, ◌%◌, ◌^◌, ◌<◌, ◌≤◌, Bool, true, false, cond, T, leb, List, [], ◌∷◌, sym, refl, ap, ◌∙◌, subst, ap₂, add-zero, mod-lt, mod-eq_of_lt, zero-mul, arith, leb→le, pow_pos, pow-add, shl_lt, shr_lt}
+use Rattle.std.proofs.Common.{◌≡◌, ℕ, zero, suc, ◌+◌, ◌*◌, ◌/◌, ◌%◌, ◌<◌, ◌≤◌, Bool, true, false, cond, T, leb, List, [], ◌∷◌, sym, refl, ap, ◌∙◌, subst, ap₂, mod-lt, mod-eq_of_lt, zero-mul, arith, leb→le, pow_pos, pow-add, shl_lt, shr_lt}
 use native.Mathlib.Nat.{div-eq_of_lt}
 use lib.Arith.{digits_lt}
 use lib.Bits.{bit_xor, xor_shr, xor_mod, xor_block, xor_assoc, xor_self, xor_zero_r}
 use lib.Pow.{split, high, low, shl-shr}
 use Rattle.fields.specs.Meaning.{FieldMeaning, FieldLaws, size}
 use Rattle.fields.specs.Pairs.{upper, lower, pair_product, doubled, pair, norm}
-use Rattle.fields.proofs.Identities.{Expr, var, nought, one, sum, prod, eval, solve, eval_below, Bounded, one_below, zero_below, times_zero, zero_times, times_one}
+use Rattle.fields.proofs.Identities.{Expr, var, nought, one, sum, prod, eval, solve, eval_below, Bounded, one_below, times_zero}
 
 -- ---- the coefficients of up to three pairs, A B, D E and G H, and c, as variables of expressions
 

@@ -1,9 +1,9 @@
 -- The laws of the fields of polynomials: the product is bilinear, so that what is left is computed.
-use Rattle.std.proofs.Common.{◌≡◌, ℕ, zero, suc, ◌+◌, ◌-◌, ◌*◌, ◌^◌, ◌<◌, Bool, true, false, not, ◌&&◌, ◌||◌, T, eqb, ltb, leb, List, [], ◌∷◌, sym, refl, ap, ◌∙◌, subst, ap₂, arith, lit<, eqb→eq, ltb→lt, leb→le, T_not}
+use Rattle.std.proofs.Common.{◌≡◌, ℕ, zero, suc, ◌+◌, ◌-◌, ◌*◌, ◌^◌, ◌<◌, Bool, true, false, not, ◌&&◌, ◌||◌, T, eqb, ltb, leb, List, [], ◌∷◌, sym, refl, ap, ◌∙◌, subst, arith, eqb→eq, ltb→lt, leb→le, T_not}
 use lib.Bits.{bit_xor}
 use lib.Dec.{eqb_refl}
 use Rattle.fields.specs.Meaning.{FieldLaws}
-use Rattle.fields.specs.Polynomials.{coefficient, carryless, remainder, product_modulo, power, polynomials, gf8, gf16, gf256}
+use Rattle.fields.specs.Polynomials.{coefficient, carryless, remainder, product_modulo, power, polynomials}
 use Rattle.fields.proofs.Tests.{all, at, same_at, below_at, both_left, both_right, every, test_at, passed}
 use Rattle.fields.proofs.Additive.{
   Additive,

@@ -3,9 +3,8 @@ use Rattle.std.proofs.Common.{◌≡◌, ℕ, zero, suc, ◌+◌, ◌-◌, ◌*�
 use lib.Bits.{bit_and, bit_or, bit_xor, and_mask, or_shifted, xor_lt}
 use lib.Pow.{pow-lt}
 use Rattle.faults.specs.declared.Fault.{Fault}
-use Rattle.faults.specs.Table.{no_element}
 use Rattle.fields.specs.Meaning.{FieldMeaning, FieldLaws, size}
-use Rattle.fields.specs.Answers.{product_answer, inverse, inverse_answer}
+use Rattle.fields.specs.Answers.{product_answer, inverse_answer}
 use Rattle.fields.specs.Pairs.{upper, lower, pair_product, doubled, norm}
 use Rattle.fields.proofs.Answered.{
   both_granted,

@@ -1,5 +1,5 @@
 -- What the elimination tells of the words, as an answer.
-use Rattle.std.proofs.Common.{◌≡◌, ℕ, ◌-◌, ◌<◌, ◌≤◌, Bool, true, false, ◌↔◌, List, length, take, Some, None, Option, sym, refl, ap, ◌∙◌, subst, arith, length-take, get_or-take}
+use Rattle.std.proofs.Common.{◌≡◌, ℕ, ◌-◌, ◌<◌, ◌≤◌, Bool, true, false, List, length, take, Some, Option, sym, refl, ap, ◌∙◌, subst, arith, length-take, get_or-take}
 use Rattle.fields.specs.Meaning.{size}
 use Rattle.codes.specs.Words.{CodeMeaning, CodeLaws, sum, at}
 use Rattle.codes.proofs.Sums.{sum_cong}

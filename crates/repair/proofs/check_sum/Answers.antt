@@ -1,4 +1,4 @@
-use Rattle.std.proofs.Common.{◌≡◌, ℕ, get_or, sym, refl, ap, ◌∙◌, ap₂, pow_pos}
+use Rattle.std.proofs.Common.{ℕ, get_or, sym, refl, ap, ◌∙◌, ap₂, pow_pos}
 use lib.Bits.{bit_xor, xor_lt}
 use Rattle.erasures.specs.Elimination.{times}
 use Rattle.erasures.proofs.Products.{sum_next}

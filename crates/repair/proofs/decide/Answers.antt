@@ -1,4 +1,4 @@
-use Rattle.std.proofs.Common.{◌≡◌, ℕ, ◌<◌, ◌≤◌, Bool, true, false, length, sym, ap, ◌∙◌, subst, arith}
+use Rattle.std.proofs.Common.{◌≡◌, ℕ, ◌<◌, ◌≤◌, true, false, length, sym, ◌∙◌, subst, arith}
 use Rattle.fields.specs.Meaning.{size}
 use Rattle.erasures.specs.Elimination.{Contradicted}
 use Rattle.erasures.specs.Rows.{Filled}

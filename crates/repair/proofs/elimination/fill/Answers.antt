@@ -1,4 +1,4 @@
-use Rattle.std.proofs.Common.{◌≡◌, ℕ, ◌+◌, ◌<◌, length, sym, refl, subst, arith, rules}
+use Rattle.std.proofs.Common.{◌+◌, ◌<◌, length, sym, subst, arith, rules}
 use Rattle.erasures.specs.Rows.{Filled}
 use Rattle.erasures.proofs.Rows.{filled_row, filled_none}
 use Rattle.repair.proofs.elimination.fill.Goals as goal

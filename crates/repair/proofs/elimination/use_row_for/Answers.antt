@@ -1,4 +1,4 @@
-use Rattle.std.proofs.Common.{◌≡◌, ◌-◌, ◌<◌, length, ◌∙◌, arith, length-take, get_or-take}
+use Rattle.std.proofs.Common.{◌-◌, ◌<◌, length, ◌∙◌, arith, length-take, get_or-take}
 use Rattle.erasures.proofs.Rows.{elements_take}
 use Rattle.erasures.proofs.Eliminating.{used_same}
 use Rattle.repair.proofs.elimination.use_row_for.Goals as goal

@@ -1,5 +1,4 @@
-use mathlib.Core.Path.{◌≡◌, sym}
-use Rattle.fields.specs.Meaning.{FieldMeaning, size}
+use mathlib.Core.Path.{sym}
 use Rattle.fields.proofs.Inverses.{inverse_is}
 use Rattle.binary_fields.specs.Tables.{table_meaning}
 use Rattle.binary_fields.specs.LogTables.{table_laws, rest_of_log}

@@ -1,3 +1,2 @@
 pub mod Tables
-pub mod Shifts
-pub mod LogTables
+pub mod Laws

@@ -2,7 +2,7 @@
 ghost use Rattle.std.specs.Prelude.{◌≡◌, ◌<◌};
 ghost use Rattle.fields.specs.Answers.{inverse};
 ghost use Rattle.fields.specs.Polynomials.{gf256};
-ghost use Rattle.binary_fields.specs.Shifts.{gf256_laws};
+ghost use Rattle.binary_fields.specs.Laws.{gf256_laws};
 
 use faults::{Fault, FieldCause};
 use fields::Field;

@@ -3,7 +3,7 @@ ghost use Rattle.std.specs.Prelude.{◌≡◌, ◌<◌};
 ghost use Rattle.fields.specs.Answers.{inverse};
 ghost use Rattle.fields.specs.Meaning.{size};
 ghost use Rattle.binary_fields.specs.Tables.{table_meaning, IsLogTables};
-ghost use Rattle.binary_fields.specs.LogTables.{table_laws};
+ghost use Rattle.binary_fields.specs.Laws.{table_laws};
 
 use faults::{Fault, FieldCause};
 use fields::Field;

@@ -1,6 +1,6 @@
 use mathlib.Core.Path.{sym, subst}
 use Prim.Native.Nat.{ℕ, ◌<◌}
-use Rattle.binary_fields.specs.Shifts.{doubled_below, shifted_only, shifted_and_reduced}
+use Rattle.binary_fields.proofs.Shifts.{doubled_below, shifted_only, shifted_and_reduced}
 use Rattle.binary_fields.proofs.shift.doubled.Goals as goal
 
 pub returns-then-x-lt128 : goal.returns-then-x-lt128

@@ -1,7 +1,8 @@
 use mathlib.Core.Path.{◌≡◌, sym, ap, ◌∙◌}
 use Rattle.fields.specs.Polynomials.{gf256}
 use Rattle.fields.proofs.Inverses.{inverse_is}
-use Rattle.binary_fields.specs.Shifts.{gf256_laws, power_254, power_254_inverts}
+use Rattle.binary_fields.specs.Laws.{gf256_laws}
+use Rattle.binary_fields.proofs.Shifts.{power_254, power_254_inverts}
 use Rattle.binary_fields.proofs.shift.power_254.Goals as goal
 
 pub returns : goal.returns

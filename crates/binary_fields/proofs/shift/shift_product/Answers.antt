@@ -6,7 +6,8 @@ use lib.Bits.{bit_xor, xor_assoc, xor_zero_r, xor_lt, and_mask}
 use lib.Pow.{shr-shr, shr_le}
 use Rattle.fields.specs.Polynomials.{gf256}
 use Rattle.fields.proofs.Identities.{times_zero}
-use Rattle.binary_fields.specs.Shifts.{gf256_laws, lowest_term}
+use Rattle.binary_fields.specs.Laws.{gf256_laws}
+use Rattle.binary_fields.proofs.Shifts.{lowest_term}
 use Rattle.binary_fields.proofs.shift.shift_product.Goals as goal
 use Rattle.binary_fields.proofs.shift.shift_product.Goals.{then-rest-eq1, else-rest-eq1}
 

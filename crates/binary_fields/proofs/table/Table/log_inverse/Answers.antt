@@ -1,7 +1,8 @@
 use mathlib.Core.Path.{sym}
 use Rattle.fields.proofs.Inverses.{inverse_is}
 use Rattle.binary_fields.specs.Tables.{table_meaning}
-use Rattle.binary_fields.specs.LogTables.{table_laws, rest_of_log}
+use Rattle.binary_fields.specs.Laws.{table_laws}
+use Rattle.binary_fields.proofs.LogTables.{rest_of_log}
 use Rattle.binary_fields.proofs.table.Table.log_inverse.Goals as goal
 
 pub returns : goal.returns

@@ -4,7 +4,8 @@ use Prim.Native.Nat.{ℕ}
 use Rattle.fields.specs.Meaning.{FieldMeaning}
 use Rattle.fields.proofs.Identities.{times_zero, zero_times}
 use Rattle.binary_fields.specs.Tables.{table_meaning}
-use Rattle.binary_fields.specs.LogTables.{table_laws, sum_of_logs}
+use Rattle.binary_fields.specs.Laws.{table_laws}
+use Rattle.binary_fields.proofs.LogTables.{sum_of_logs}
 use Rattle.binary_fields.proofs.table.Table.log_product.Goals as goal
 
 pub returns-then-x-eq0 : goal.returns-then-x-eq0

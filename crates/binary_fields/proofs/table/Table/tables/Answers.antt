@@ -1,5 +1,5 @@
 use Rattle.fields.specs.Polynomials.{product_modulo, carryless, remainder, power, gf8, gf16}
-use Rattle.binary_fields.specs.LogTables.{tested_tables}
+use Rattle.binary_fields.proofs.LogTables.{tested_tables}
 use Rattle.binary_fields.proofs.table.Table.tables.Goals as goal
 
 pub returns-in-Gf8 : goal.returns-in-Gf8

@@ -1,18 +1,15 @@
 -- What the tables of logarithms and powers give, from one computed test of each.
 use Rattle.std.specs.Prelude.{◌≡◌, refl, Bool, ◌&&◌, ◌||◌, List, ℕ, ◌+◌, ◌-◌, ◌*◌, ◌<◌, T, eqb, ltb, length, get_or}
 use Rattle.std.proofs.Common.{sym, ap, ap₂, subst, ◌∙◌, arith, eqb→eq, ltb→lt, lit<}
-use Rattle.fields.specs.Meaning.{FieldMeaning, FieldLaws, size}
+use Rattle.fields.specs.Meaning.{FieldMeaning, size}
 use Rattle.fields.specs.Polynomials.{product_modulo, carryless, remainder, power, gf8, gf16}
 use Rattle.fields.proofs.Tests.{all, at, same_at, both_left, both_right}
-use Rattle.fields.proofs.PolynomialLaws.{polynomial_laws, gf8_computed, gf16_computed, unless_zero}
+use Rattle.fields.proofs.PolynomialLaws.{unless_zero}
 use Rattle.fields.proofs.Powers.{power_below, power_sum}
 use Rattle.binary_fields.specs.declared.table.Table.{Table}
 use Rattle.binary_fields.specs.declared.table.Table.TheVariants.{Gf8, Gf16}
 use Rattle.binary_fields.specs.Tables.{table_meaning, IsLogTables}
-
-pub table_laws : (t : Table) → FieldLaws (table_meaning t)
-table_laws Gf8 = polynomial_laws 3 0b1011 1 gf8_computed
-table_laws Gf16 = polynomial_laws 4 0b10011 8 gf16_computed
+use Rattle.binary_fields.specs.Laws.{table_laws}
 
 module _ (f : FieldMeaning) (logs powers : List ℕ) where
   abbrev log_test : ℕ → Bool

@@ -4,14 +4,11 @@ use Rattle.std.proofs.Common.{sym, ap, ap₂, ◌∙◌, zero-mul, one-mul, arit
 use Rattle.std.specs.Int.Bits.{bit_xor, xor_zero_r, xor_shifted}
 use Rattle.std.proofs.lemmas.Nat.{xor_comm}
 use Rattle.std.proofs.Math.Pow.{split}
-use Rattle.fields.specs.Meaning.{FieldLaws}
 use Rattle.fields.specs.Polynomials.{coefficient, carryless, remainder, product_modulo, gf256}
 use Rattle.fields.proofs.Tests.{at}
 use Rattle.fields.proofs.Identities.{times_one, times_zero}
-use Rattle.fields.proofs.PolynomialLaws.{polynomial_laws, gf256_computed, twice, twice_is, unless_zero}
-
-pub gf256_laws : FieldLaws gf256
-gf256_laws = polynomial_laws 8 0x11d 32 gf256_computed
+use Rattle.fields.proofs.PolynomialLaws.{gf256_computed, twice, twice_is, unless_zero}
+use Rattle.binary_fields.specs.Laws.{gf256_laws}
 
 abbrev times : ℕ → ℕ → ℕ
 times = gf256.product

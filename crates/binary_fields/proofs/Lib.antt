@@ -1,0 +1,2 @@
+pub mod LogTables
+pub mod Shifts

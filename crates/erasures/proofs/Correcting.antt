@@ -8,7 +8,7 @@ use Rattle.codes.proofs.Sums.{xor_same, sum_cong, sum_zero, sum_below, sum_one, 
 use Rattle.codes.proofs.Systematic.{unit_own, unit_other}
 use Rattle.erasures.specs.Agreement.{State}
 use Rattle.erasures.specs.Elimination.{Times, dot, Corrects, Reduced}
-use Rattle.erasures.proofs.Products.{mul-zero, zero-mul, dot_below, dot_sum, dot_columns}
+use Rattle.erasures.proofs.Products.{mul_zero, zero_mul, dot_below, dot_sum, dot_columns}
 use Rattle.erasures.proofs.Reducing.{some_none, some_some}
 
 pub option_cases : {X : Type 0} (o : Option X) → (o ≡ None) ⊎ ((x : X) × (o ≡ Some x))
@@ -75,7 +75,7 @@ module _ (width : ℕ) (mul : ℕ → ℕ → ℕ) (T : Times width mul) (r n : 
   t_below i l = subst (λ (y : ℕ). y < 2 ^ width) (sym (R.combined i l)) (dot_below width mul T r (e i) s)
 
   term_zero : (i p y : ℕ) → dot mul r (e i) (h p) ≡ 0 → mul (dot mul r (e i) (h p)) y ≡ 0
-  term_zero i p y z = ap (λ (w : ℕ). mul w y) z ∙ zero-mul width mul T y
+  term_zero i p y z = ap (λ (w : ℕ). mul w y) z ∙ zero_mul width mul T y
 
   -- a row sees no other place that has a row
   other_zero : (i : ℕ) → i < r → (p u : ℕ) → u < r → pivot u ≡ Some p → (pivot i ≡ Some p → ⊥) → dot mul r (e i) (h p) ≡ 0
@@ -92,7 +92,7 @@ module _ (width : ℕ) (mul : ℕ → ℕ → ℕ) (T : Times width mul) (r n : 
       sum_zero n (λ p. mul (dot mul r (e i) (h p)) (x p))
       (λ p m.
       ⊎_elim (λ lost. term_zero i p (x p) (open_zero i l none p m lost))
-      (λ w. ap (mul (dot mul r (e i) (h p))) (held p w.0 m w.1) ∙ mul-zero width mul T (dot mul r (e i) (h p)))
+      (λ w. ap (mul (dot mul r (e i) (h p))) (held p w.0 m w.1) ∙ mul_zero width mul T (dot mul r (e i) (h p)))
       (option_cases (state p)))
 
   -- each row makes its sum: row by row
@@ -116,7 +116,7 @@ module _ (width : ℕ) (mul : ℕ → ℕ → ℕ) (T : Times width mul) (r n : 
         (λ lost.
         let w = full o m lost in
         term_zero i o (x o) (other_zero i l o w.0 w.1 w.2 (λ u. ne (some_some u q))))
-        (λ w. ap (mul (dot mul r (e i) (h o))) (held o w.0 m w.1) ∙ mul-zero width mul T (dot mul r (e i) (h o)))
+        (λ w. ap (mul (dot mul r (e i) (h o))) (held o w.0 m w.1) ∙ mul_zero width mul T (dot mul r (e i) (h o)))
         (option_cases (state o)))
         ∙ ap (λ (u : ℕ). mul u (x p)) (R.one i p l q) ∙ T.neutral (x p) b
 
@@ -170,7 +170,7 @@ module _ (width : ℕ) (mul : ℕ → ℕ → ℕ) (T : Times width mul) (r n : 
     chosen_there = chosen_free f free ∙ ap (λ (u : ℕ). mul u b) (unit_own f) ∙ T.neutral b small
 
     chosen_zero : (p : ℕ) → (p ≡ f → ⊥) → ((i : ℕ) → i < r → pivot i ≡ Some p → ⊥) → chosen p ≡ 0
-    chosen_zero p ne none = chosen_free p none ∙ ap (λ (u : ℕ). mul u b) (unit_other f p ne) ∙ zero-mul width mul T b
+    chosen_zero p ne none = chosen_free p none ∙ ap (λ (u : ℕ). mul u b) (unit_other f p ne) ∙ zero_mul width mul T b
 
     chosen_held : ZeroWhereHeld chosen
     chosen_held p v m q =
@@ -191,7 +191,7 @@ module _ (width : ℕ) (mul : ℕ → ℕ → ℕ) (T : Times width mul) (r n : 
         sum_both n (λ o. mul (dot mul r (e i) (h o)) (chosen o)) p f (R.seen i p l q).0 within (λ z. free i l (q ∙ ap Some z))
         (λ o m ne nf.
         ⊎_elim (λ w. term_zero i o (chosen o) (other_zero i l o w.0 w.1 w.2 (λ u. ne (some_some u q))))
-        (λ w. ap (mul (dot mul r (e i) (h o))) (chosen_zero o nf w) ∙ mul-zero width mul T (dot mul r (e i) (h o))) (find_row pivot r o))
+        (λ w. ap (mul (dot mul r (e i) (h o))) (chosen_zero o nf w) ∙ mul_zero width mul T (dot mul r (e i) (h o))) (find_row pivot r o))
         ∙ ap₂ bit_xor
         (ap (λ (u : ℕ). mul u (chosen p)) (R.one i p l q) ∙ T.neutral (chosen p) (chosen_below p (R.seen i p l q).0) ∙ chosen_row i p l q)
         (ap (mul (dot mul r (e i) (h f))) chosen_there)

@@ -36,14 +36,14 @@ module _ (f : FieldMeaning) (L : FieldLaws f) where
   }
 
 module _ (width : ℕ) (mul : ℕ → ℕ → ℕ) (T : Times width mul) where
-  pub mul-zero : (x : ℕ) → mul x 0 ≡ 0
-  mul-zero x = additive_zero (mul x) (T.distributes x)
+  pub mul_zero : (x : ℕ) → mul x 0 ≡ 0
+  mul_zero x = additive_zero (mul x) (T.distributes x)
 
-  pub zero-mul : (x : ℕ) → mul 0 x ≡ 0
-  zero-mul x = T.commutes 0 x ∙ mul-zero x
+  pub zero_mul : (x : ℕ) → mul 0 x ≡ 0
+  zero_mul x = T.commutes 0 x ∙ mul_zero x
 
   pub mul_sum : (x n : ℕ) (f : ℕ → ℕ) → mul x (sum n f) ≡ sum n (λ i. mul x (f i))
-  mul_sum x zero f = mul-zero x
+  mul_sum x zero f = mul_zero x
   mul_sum x (suc n) f = T.distributes x (sum n f) (f n) ∙ ap (λ (y : ℕ). bit_xor y (mul x (f n))) (mul_sum x n f)
 
   -- x (y z) is y (x z)
@@ -55,7 +55,7 @@ module _ (width : ℕ) (mul : ℕ → ℕ → ℕ) (T : Times width mul) where
     dot_below a y = sum_below width r (λ j. mul (a j) (y j)) (λ j l. T.below (a j) (y j))
 
     pub dot_zero : (a y : ℕ → ℕ) → ((j : ℕ) → j < r → y j ≡ 0) → dot mul r a y ≡ 0
-    dot_zero a y h = sum_zero r (λ j. mul (a j) (y j)) (λ j l. ap (mul (a j)) (h j l) ∙ mul-zero (a j))
+    dot_zero a y h = sum_zero r (λ j. mul (a j) (y j)) (λ j l. ap (mul (a j)) (h j l) ∙ mul_zero (a j))
 
     pub dot_sum : (a y z : ℕ → ℕ) → dot mul r a (λ j. bit_xor (y j) (z j)) ≡ bit_xor (dot mul r a y) (dot mul r a z)
     dot_sum a y z =

@@ -5,7 +5,7 @@ use Rattle.std.proofs.lemmas.Bool.{cases_eq}
 use Rattle.codes.proofs.Sums.{sum_one}
 use Rattle.erasures.specs.Agreement.{State}
 use Rattle.erasures.specs.Elimination.{Times, dot, Reduced, Pivoted, Undetermined}
-use Rattle.erasures.proofs.Products.{mul-zero, zero-mul, dot_below, dot_scaled, dot_added}
+use Rattle.erasures.proofs.Products.{mul_zero, zero_mul, dot_below, dot_scaled, dot_added}
 
 pub some_none : {X : Type 0} {x : X} {o : Option X} → o ≡ Some x → o ≡ None → ⊥
 some_none e f = let z : ◌≡◌ {A = ℕ} 0 1 = cc in omega arith
@@ -30,7 +30,7 @@ module _ (width : ℕ) (mul : ℕ → ℕ → ℕ) (T : Times width mul) (r : �
       unit : (y : ℕ → ℕ) → ((j : ℕ) → j < r → y j < 2 ^ width) → (i : ℕ) → i < r → dot mul r (e i) y ≡ y i
       unit y b i l =
           sum_one r (λ j. mul (e i j) (y j)) i l
-          (λ j m n. ap (λ (w : ℕ). mul w (y j)) (off i j l m n) ∙ zero-mul width mul T (y j))
+          (λ j m n. ap (λ (w : ℕ). mul w (y j)) (off i j l m n) ∙ zero_mul width mul T (y j))
           ∙ ap (λ (w : ℕ). mul w (y i)) (on i l) ∙ T.neutral (y i) (b i l)
 
   module _ (done : ℕ) (e : ℕ → ℕ → ℕ) (t : ℕ → ℕ) (pivot : ℕ → Option ℕ) (R : Reduced width mul r h s state done e t pivot) where
@@ -69,12 +69,12 @@ module _ (width : ℕ) (mul : ℕ → ℕ → ℕ) (T : Times width mul) (r : �
 
       -- where row i gave 0 it gives 0, and no other row changes
       at_zero : (y : ℕ → ℕ) → dot mul r (e i) y ≡ 0 → dot mul r (e' i) y ≡ 0
-      at_zero y z = at_row y ∙ ap (mul by) z ∙ mul-zero width mul T by
+      at_zero y z = at_row y ∙ ap (mul by) z ∙ mul_zero width mul T by
 
       off_zero : (y : ℕ → ℕ) → dot mul r (e' i) y ≡ 0 → (o : ℕ) → o < r → (o ≡ i → ⊥) → dot mul r (e' o) y ≡ dot mul r (e o) y
       off_zero y z o l n =
           off_row y o l n ∙ ap (λ (w : ℕ). bit_xor (dot mul r (e o) y) (mul (c o) w)) z
-          ∙ ap (bit_xor (dot mul r (e o) y)) (mul-zero width mul T (c o)) ∙ xor_zero_r (dot mul r (e o) y)
+          ∙ ap (bit_xor (dot mul r (e o) y)) (mul_zero width mul T (c o)) ∙ xor_zero_r (dot mul r (e o) y)
 
       stays : (y : ℕ → ℕ) → dot mul r (e i) y ≡ 0 → (o : ℕ) → o < r → dot mul r (e' o) y ≡ dot mul r (e o) y
       stays y z o l =
@@ -86,7 +86,7 @@ module _ (width : ℕ) (mul : ℕ → ℕ → ℕ) (T : Times width mul) (r : �
       was_zero y z =
           let d = dot mul r (e i) y in
           sym (T.neutral d (dot_below width mul T r (e i) y)) ∙ ap (λ (w : ℕ). mul w d) (sym inverse ∙ T.commutes by (c i))
-          ∙ T.associates (c i) by d ∙ ap (mul (c i)) (sym (at_row y) ∙ z) ∙ mul-zero width mul T (c i)
+          ∙ T.associates (c i) by d ∙ ap (mul (c i)) (sym (at_row y) ∙ z) ∙ mul_zero width mul T (c i)
 
       new_combined : (o : ℕ) → o < r → t' o ≡ dot mul r (e' o) s
       new_combined o l =

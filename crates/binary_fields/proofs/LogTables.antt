@@ -1,10 +1,14 @@
 -- What the tables of logarithms and powers give, from one computed test of each.
-use Rattle.std.specs.Prelude.{◌≡◌, refl, Bool, ◌&&◌, ◌||◌, List, ℕ, ◌+◌, ◌-◌, ◌*◌, ◌<◌, T, eqb, ltb, length, get_or}
-use Rattle.std.proofs.Common.{sym, ap, ap₂, subst, ◌∙◌, arith, eqb→eq, ltb→lt, lit<}
+use Rattle.std.specs.Prelude.{◌≡◌, ◌≢◌, refl, Bool, true, ◌&&◌, ◌||◌, List, [], ◌∷◌, ℕ, ◌+◌, ◌-◌, ◌*◌, ◌<◌, eqb, ltb, length, get_or}
+use Rattle.std.proofs.Common.{sym, subst, arith, eqb-true, ltb-true, lit<}
+use Rattle.std.specs.List.{list_all}
+use Rattle.std.proofs.lemmas.Bool.{and_parts}
 use Rattle.fields.specs.Meaning.{FieldMeaning, size}
 use Rattle.fields.specs.Polynomials.{product_modulo, carryless, remainder, power, gf8, gf16}
-use Rattle.fields.proofs.Tests.{all, at, same_at, both_left, both_right}
+use Rattle.fields.proofs.Tests.{all, at, same_at, passed}
 use Rattle.fields.proofs.PolynomialLaws.{unless_zero}
+use Rattle.fields.specs.Answers.{inverse}
+use Rattle.fields.proofs.Inverses.{inverse_is}
 use Rattle.fields.proofs.Powers.{power_below, power_sum}
 use Rattle.binary_fields.specs.declared.table.Table.{Table}
 use Rattle.binary_fields.specs.declared.table.Table.TheVariants.{Gf8, Gf16}
@@ -15,22 +19,25 @@ module _ (f : FieldMeaning) (logs powers : List ℕ) where
   abbrev log_test : ℕ → Bool
   log_test x = ltb (get_or logs x 0 + 1) (size f) && (eqb x 0 || eqb (f.roll (get_or logs x 0)) x)
 
-  abbrev pub tables_test : Bool
-  tables_test =
-      (eqb (length logs) (size f) && eqb (length powers) (2 * (size f - 1)))
-      && (all (size f) log_test && all (2 * (size f - 1)) (λ i. eqb (get_or powers i 0) (f.roll i)))
+  -- both lengths, every logarithm and every power
+  abbrev tests : List Bool
+  tests =
+      eqb (length logs) (size f)
+      ∷ eqb (length powers) (2 * (size f - 1))
+      ∷ all (size f) log_test
+      ∷ all (2 * (size f - 1)) (λ i. eqb (get_or powers i 0) (f.roll i))
+      ∷ []
 
-  pub tested_tables : T tables_test → IsLogTables f logs powers
+  pub tested_tables : list_all (λ b. b) tests ≡ true → IsLogTables f logs powers
   tested_tables t =
-      let lengths = both_left (eqb (length logs) (size f) && eqb (length powers) (2 * (size f - 1))) _ t in
-      let entries = both_right (eqb (length logs) (size f) && eqb (length powers) (2 * (size f - 1))) _ t in
-      let log : (x : ℕ) → x < size f → T (log_test x) = at (size f) log_test (both_left (all (size f) log_test) _ entries) in
+      let pass : (i : ℕ) → get_or tests i true ≡ true = passed tests t in
+      let log = λ (x : ℕ) (h : x < size f). and_parts (ltb (get_or logs x 0 + 1) (size f)) (eqb x 0 || eqb (f.roll (get_or logs x 0)) x) (at (size f) log_test (pass 2) x h) in
       record {
-        log_count = eqb→eq (length logs) (size f) (both_left (eqb (length logs) (size f)) _ lengths);
-        power_count = eqb→eq (length powers) (2 * (size f - 1)) (both_right (eqb (length logs) (size f)) _ lengths);
-        log_below = λ x h. ltb→lt (get_or logs x 0 + 1) (size f) (both_left (ltb (get_or logs x 0 + 1) (size f)) _ (log x h));
-        log_is = λ x h ne. eqb→eq (f.roll (get_or logs x 0)) x (unless_zero x (eqb (f.roll (get_or logs x 0)) x) ne (both_right (ltb (get_or logs x 0 + 1) (size f)) _ (log x h)));
-        power_is = same_at (2 * (size f - 1)) (λ i. get_or powers i 0) f.roll (both_right (all (size f) log_test) _ entries);
+        log_count = eqb-true (length logs) (size f) (pass 0);
+        power_count = eqb-true (length powers) (2 * (size f - 1)) (pass 1);
+        log_below = λ x h. ltb-true (get_or logs x 0 + 1) (size f) (log x h).0;
+        log_is = λ x h ne. eqb-true (f.roll (get_or logs x 0)) x (unless_zero x (eqb (f.roll (get_or logs x 0)) x) ne (log x h).1);
+        power_is = same_at (2 * (size f - 1)) (λ i. get_or powers i 0) f.roll (pass 3);
       }
 
 roll_sum : (t : Table) (i j : ℕ) → (table_meaning t).roll (i + j) ≡ (table_meaning t).product ((table_meaning t).roll i) ((table_meaning t).roll j)
@@ -54,21 +61,18 @@ module _ (t : Table) (logs powers : List ℕ) (h : IsLogTables (table_meaning t)
   times = (table_meaning t).product
 
   -- the power at the sum of two logarithms
-  pub sum_of_logs : (x y : ℕ) → x < q → y < q → (x ≡ 0 → ⊥) → (y ≡ 0 → ⊥) → get_or powers (get_or logs x 0 + get_or logs y 0) 0 ≡ times x y
+  pub sum_of_logs : (x y : ℕ) → x < q → y < q → (x ≢ 0) → (y ≢ 0) → get_or powers (get_or logs x 0 + get_or logs y 0) 0 ≡ times x y
   sum_of_logs x y hx hy nx ny =
       let lx = h.log_below x hx in
       let ly = h.log_below y hy in
-      h.power_is (get_or logs x 0 + get_or logs y 0) (omega arith) ∙ roll_sum t (get_or logs x 0) (get_or logs y 0)
-      ∙ ap₂ times (h.log_is x hx nx) (h.log_is y hy ny)
+      cc (h.power_is (get_or logs x 0 + get_or logs y 0) (omega arith), roll_sum t (get_or logs x 0) (get_or logs y 0), h.log_is x hx nx, h.log_is y hy ny)
 
   -- the power at what a logarithm lacks to a full turn
-  pub rest_of_log : (x : ℕ) → x < q → (x ≡ 0 → ⊥)
-      → (get_or powers (q - 1 - get_or logs x 0) 0 < q) × (times x (get_or powers (q - 1 - get_or logs x 0) 0) ≡ 1)
-  rest_of_log x hx nx =
+  pub inverse_of_log : (x : ℕ) → x < q → (x ≢ 0) → get_or powers (q - 1 - get_or logs x 0) 0 ≡ inverse (table_meaning t) x
+  inverse_of_log x hx nx =
       let l : ℕ = get_or logs x 0 in
       let lx = h.log_below x hx in
       let at_rest : get_or powers (q - 1 - l) 0 ≡ (table_meaning t).roll (q - 1 - l) = h.power_is (q - 1 - l) (omega arith) in
-      let whole : l + (q - 1 - l) ≡ q - 1 = omega arith in (
-        subst (λ (n : ℕ). n < q) (sym at_rest) (roll_below t (q - 1 - l)),
-        ap₂ times (sym (h.log_is x hx nx)) at_rest ∙ sym (roll_sum t l (q - 1 - l)) ∙ ap (table_meaning t).roll whole ∙ roll_turn t,
-      )
+      let whole : l + (q - 1 - l) ≡ q - 1 = omega arith in
+      sym (inverse_is (table_meaning t) (table_laws t) x (get_or powers (q - 1 - l) 0) hx (subst (λ (n : ℕ). n < q) (sym at_rest) (roll_below t (q - 1 - l)))
+      (cc (h.log_is x hx nx, roll_sum t l (q - 1 - l), roll_turn t)))

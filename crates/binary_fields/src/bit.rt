@@ -4,19 +4,21 @@ ghost use Rattle.fields.specs.Answers.{inverse};
 ghost use Rattle.fields.specs.Polynomials.{gf2};
 ghost use Rattle.fields.proofs.BitLaws.{bit_laws};
 
-use faults::{Fault, FieldCause};
+use faults::Fault;
 use fields::Field;
 
 /// The numbers 0 and 1.
 #[derive(Clone, Copy)]
 pub struct Bit;
 
+/// How many bits an element has.
 const WIDTH: u8 = 1;
 
 /// The element c.
 const C: u16 = 1;
 
 /// 1 is its own inverse.
+#[tactic(auto, unfolding(fields::specs::Answers::inverse))]
 fn own_inverse(x: u16) -> u16
     requires { x ≡ 1 }
     ensures { result ≡ inverse gf2 x }
@@ -38,25 +40,15 @@ impl Field for Bit {
     }
 
     fn product(&self, x: u16, y: u16) -> Result<u16, Fault> {
-        if x >= 2 || y >= 2 {
-            return Err(Fault::field(FieldCause::Operand));
-        }
-        Ok(x & y)
+        Ok(self.element(x)? & self.element(y)?)
     }
 
     fn inverse(&self, x: u16) -> Result<u16, Fault> {
-        match x {
-            0 => Err(Fault::field(FieldCause::InverseOfZero)),
-            1 => Ok(own_inverse(x)),
-            _ => Err(Fault::field(FieldCause::Operand)),
-        }
+        Ok(own_inverse(self.nonzero(x)?))
     }
 
     fn roll(&self, i: u16) -> Result<u16, Fault> {
-        if i == 0 {
-            Ok(1)
-        } else {
-            Err(Fault::field(FieldCause::Roll))
-        }
+        self.roll_index(i)?;
+        Ok(1)
     }
 }

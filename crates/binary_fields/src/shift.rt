@@ -1,41 +1,37 @@
 //! The field of 256 elements, worked out by shifts.
-ghost use Rattle.std.specs.Prelude.{◌≡◌, ◌<◌};
-ghost use Rattle.fields.specs.Answers.{inverse};
+ghost use Rattle.std.specs.Prelude.{◌≡◌, ◌≢◌};
+ghost use Rattle.fields.specs.Answers.{element_answer, inverse};
 ghost use Rattle.fields.specs.Polynomials.{gf256};
 ghost use Rattle.binary_fields.specs.Laws.{gf256_laws};
 
-use faults::{Fault, FieldCause};
+use faults::Fault;
 use fields::Field;
 
 /// The polynomials modulo x⁸ + x⁴ + x³ + x² + 1, with no table.
 #[derive(Clone, Copy)]
 pub struct Gf256;
 
-/// The modulus, with its leading term.
-const MODULUS: u16 = 0x11d;
+/// What x⁸ is: the modulus without its leading term.
+const REDUCED: u8 = 0x1d;
 
-/// X times `x`: a shift, and the modulus where a term of degree 8 came.
-fn doubled(x: u16) -> u16
-    requires { x < 256 }
-    ensures value { result ≡ gf256.product 2 x }
-    ensures element { result < 256 }
+/// X times `x`: a shift, and what x⁸ is where a term of degree 8 came.
+#[tactic(auto, using(crate::proofs::Shifts::shifted_only, crate::proofs::Shifts::shifted_and_reduced))]
+fn doubled(x: u8) -> u8
+    ensures { result ≡ gf256.product 2 x }
 {
-    if x < 128 { x << 1 } else { (x << 1) ^ MODULUS }
+    if x < 128 { x << 1 } else { (x << 1) ^ REDUCED }
 }
 
 /// The product, as the sum of the shifted copies of `x` that the terms of `y` choose.
-fn shift_product(x: u16, y: u16) -> u16
-    requires { (x < 256) × (y < 256) }
-    ensures value { result ≡ gf256.product x y }
-    ensures element { result < 256 }
+fn shift_product(x: u8, y: u8) -> u8
+    ensures { result ≡ gf256.product x y }
 {
-    let mut sum: u16 = 0;
+    let mut sum = 0;
     let mut shifted = x;
     let mut rest = y;
     for _i in 0..8u8 {
-        if rest & 1 == 1 {
-            sum ^= shifted;
-        }
+        // the shifted copy where y has this term, and else 0
+        sum ^= (rest & 1) * shifted;
         shifted = doubled(shifted);
         rest >>= 1;
     }
@@ -43,8 +39,9 @@ fn shift_product(x: u16, y: u16) -> u16
 }
 
 /// The inverse of `x`, which is `x` to the power 254.
-fn power_254(x: u16) -> u16
-    requires { (x < 256) × ((x ≡ 0 → ⊥)) }
+#[tactic(auto, using(crate::proofs::Shifts::power_254_is))]
+fn power_254(x: u8) -> u8
+    requires { x ≢ 0 }
     ensures { result ≡ inverse gf256 x }
 {
     let x2 = shift_product(x, x);
@@ -61,14 +58,20 @@ fn power_254(x: u16) -> u16
 }
 
 /// 2 to the power `i`.
-fn power_of_two(i: u16) -> u16
+#[tactic(auto, unfolding(fields::specs::Polynomials::power))]
+fn power_of_two(i: u16) -> u8
     ensures { result ≡ gf256.roll i }
 {
-    let mut power = 1;
-    for _k in 0..i {
-        power = doubled(power);
+    (0..i).fold(1, |power, _| doubled(power))
+}
+
+impl Gf256 {
+    /// The element as a byte; 11 where `x` is no element.
+    fn byte(&self, x: u16) -> Result<u8, Fault>
+        ensures { result ≡ element_answer gf256 x }
+    {
+        Ok(self.element(x)? as u8)
     }
-    power
 }
 
 impl Field for Gf256 {
@@ -85,26 +88,17 @@ impl Field for Gf256 {
     }
 
     fn product(&self, x: u16, y: u16) -> Result<u16, Fault> {
-        if x >= 256 || y >= 256 {
-            return Err(Fault::field(FieldCause::Operand));
-        }
-        Ok(shift_product(x, y))
+        let (x, y) = (self.byte(x)?, self.byte(y)?);
+        Ok(u16::from(shift_product(x, y)))
     }
 
     fn inverse(&self, x: u16) -> Result<u16, Fault> {
-        if x >= 256 {
-            return Err(Fault::field(FieldCause::Operand));
-        }
-        if x == 0 {
-            return Err(Fault::field(FieldCause::InverseOfZero));
-        }
-        Ok(power_254(x))
+        let x = self.byte(self.nonzero(x)?)?;
+        Ok(u16::from(power_254(x)))
     }
 
     fn roll(&self, i: u16) -> Result<u16, Fault> {
-        if i >= 255 {
-            return Err(Fault::field(FieldCause::Roll));
-        }
-        Ok(power_of_two(i))
+        let i = self.roll_index(i)?;
+        Ok(u16::from(power_of_two(i)))
     }
 }

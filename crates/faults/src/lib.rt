@@ -2,6 +2,8 @@
 #![tactic(auto)]
 
 ghost use Rattle.std.specs.Prelude.{◌≡◌, Some};
+ghost use Rattle.faults.specs.declared.Layer.{Layer};
+ghost use Rattle.faults.specs.declared.Layer.TheVariants.{Field, Code, Sheet, Line};
 ghost use Rattle.faults.specs.Table.{plain, told_at, number_of, layer_name, refusal};
 
 use std::fmt;
@@ -80,47 +82,60 @@ pub struct Fault {
     pub place: Option<usize>,
 }
 
+/// A cause of a refusal, which tells its layer.
+pub trait Cause {
+    ghost layer: { Self → Layer };
+
+    /// The layer that refuses, with this cause.
+    fn layer(self) -> Layer
+        ensures { result ≡ layer self };
+}
+
+impl Cause for FieldCause {
+    ghost layer = { Field };
+
+    fn layer(self) -> Layer {
+        Layer::Field(self)
+    }
+}
+
+impl Cause for CodeCause {
+    ghost layer = { Code };
+
+    fn layer(self) -> Layer {
+        Layer::Code(self)
+    }
+}
+
+impl Cause for SheetCause {
+    ghost layer = { Sheet };
+
+    fn layer(self) -> Layer {
+        Layer::Sheet(self)
+    }
+}
+
+impl Cause for LineCause {
+    ghost layer = { Line };
+
+    fn layer(self) -> Layer {
+        Layer::Line(self)
+    }
+}
+
+/// A refusal that tells no place.
+impl<C: Cause> From<C> for Fault {
+    ghost from_gives = { λ cause fault. fault ≡ plain (C.layer cause) };
+
+    fn from(cause: C) -> Fault {
+        Fault {
+            layer: cause.layer(),
+            place: None,
+        }
+    }
+}
+
 impl Fault {
-    /// A field's refusal, which tells no place.
-    pub fn field(cause: FieldCause) -> Fault
-        ensures { result ≡ plain (Layer.Field cause) }
-    {
-        Fault {
-            layer: Layer::Field(cause),
-            place: None,
-        }
-    }
-
-    /// A code's refusal, which tells no place.
-    pub fn code(cause: CodeCause) -> Fault
-        ensures { result ≡ plain (Layer.Code cause) }
-    {
-        Fault {
-            layer: Layer::Code(cause),
-            place: None,
-        }
-    }
-
-    /// A sheet's refusal, which tells no place.
-    pub fn sheet(cause: SheetCause) -> Fault
-        ensures { result ≡ plain (Layer.Sheet cause) }
-    {
-        Fault {
-            layer: Layer::Sheet(cause),
-            place: None,
-        }
-    }
-
-    /// A line's refusal, which tells no place.
-    pub fn line(cause: LineCause) -> Fault
-        ensures { result ≡ plain (Layer.Line cause) }
-    {
-        Fault {
-            layer: Layer::Line(cause),
-            place: None,
-        }
-    }
-
     /// The same fault, told at a place.
     pub fn at(self, place: usize) -> Fault
         ensures { result ≡ told_at self place }

@@ -1,6 +1,5 @@
 -- Functions that keep the exclusive or: what they do at the powers of two, they do at every number.
-use Rattle.std.proofs.Common.{◌≡◌, ℕ, zero, suc, ◌*◌, ◌/◌, ◌%◌, ◌^◌, ◌<◌, Bool, T, eqb, ltb, sym, ap, ◌∙◌, subst, ap₂, suc-le-suc, le_refl, lt_of_lt_of_le, le_of_suc-le-suc, not-suc-le-zero, add-zero, mod-lt, one-mul, zero-mul, one-add, lit<, pow_pos, shr_lt}
-use native.Mathlib.Nat.{le-suc}
+use Rattle.std.proofs.Common.{◌≡◌, ℕ, zero, suc, ◌*◌, ◌/◌, ◌%◌, ◌^◌, ◌<◌, Bool, true, eqb, ltb, sym, ap, ◌∙◌, subst, ap₂, arith, add-zero, mod-lt, one-mul, zero-mul, one-add, lit<, pow_pos, shr_lt}
 use lib.Arith.{lt-one}
 use lib.Pow.{split}
 use lib.Bits.{bit_xor, xor_assoc, xor_comm, xor_self, xor_zero_r, xor_block, xor_shifted, xor_shr, xor_mod, xor_lt}
@@ -11,10 +10,11 @@ abbrev pub Additive : (ℕ → ℕ) → Type 0
 Additive f = (x y : ℕ) → f (bit_xor x y) ≡ bit_xor (f x) (f y)
 
 pub xor_exchange : (a b c d : ℕ) → bit_xor (bit_xor a b) (bit_xor c d) ≡ bit_xor (bit_xor a c) (bit_xor b d)
-xor_exchange a b c d =
-    xor_assoc a b (bit_xor c d)
-    ∙ ap (bit_xor a) (sym (xor_assoc b c d) ∙ ap (λ (t : ℕ). bit_xor t d) (xor_comm b c) ∙ xor_assoc c b d)
-    ∙ sym (xor_assoc a c (bit_xor b d))
+xor_exchange a b c d = cc (xor_assoc a b (bit_xor c d), xor_assoc b c d, xor_comm b c, xor_assoc c b d, xor_assoc a c (bit_xor b d))
+
+-- a sum of two that is 0 has them equal
+pub xor_same : (a b : ℕ) → bit_xor a b ≡ 0 → a ≡ b
+xor_same a b e = sym (xor_zero_r a) ∙ ap (bit_xor a) (sym (xor_self b)) ∙ sym (xor_assoc a b b) ∙ ap (λ (x : ℕ). bit_xor x b) e
 
 pub additive_zero : (f : ℕ → ℕ) → Additive f → f 0 ≡ 0
 additive_zero f h = h 0 0 ∙ xor_self (f 0)
@@ -29,61 +29,43 @@ additive_sum f g hf hg x y = ap₂ bit_xor (hf x y) (hg x y) ∙ xor_exchange (f
 -- ---- shifts, digits and products with a digit
 
 pub shift_additive : (k : ℕ) → Additive (λ x. x * 2 ^ k)
-shift_additive k x y =
-    sym (ap₂ bit_xor (sym (add-zero (x * 2 ^ k))) (sym (add-zero (y * 2 ^ k))) ∙ xor_block k x y 0 0 (pow_pos k) (pow_pos k) ∙ add-zero (bit_xor x y * 2 ^ k))
+shift_additive k x y = cc (xor_block k x y 0 0 (pow_pos k) (pow_pos k), add-zero (x * 2 ^ k), add-zero (y * 2 ^ k), add-zero (bit_xor x y * 2 ^ k))
 
-not_digit {ℓ} : {A : Type ℓ} {x : ℕ} → suc (suc x) < 2 → A
-not_digit h = absurd (not-suc-le-zero (le_of_suc-le-suc (le_of_suc-le-suc h)))
+-- what holds at 0 and at 1 holds at every digit
+pub at_digit : (P : ℕ → Type 0) → P 0 → P 1 → (d : ℕ) → d < 2 → P d
+at_digit P p q zero h = p
+at_digit P p q (suc zero) h = q
+at_digit P p q (suc (suc d)) h = absurd (omega arith)
 
 pub coefficient_below : (p i : ℕ) → coefficient p i < 2
 coefficient_below p i = mod-lt (p / 2 ^ i) (lit< tt)
 
 digit_times : (d e m : ℕ) → d < 2 → e < 2 → bit_xor d e * m ≡ bit_xor (d * m) (e * m)
-digit_times zero e m hd he = ap (λ (t : ℕ). bit_xor t (e * m)) (sym (zero-mul m))
-digit_times (suc zero) zero m hd he = sym (xor_zero_r (1 * m)) ∙ ap (bit_xor (1 * m)) (sym (zero-mul m))
-digit_times (suc zero) (suc zero) m hd he = zero-mul m ∙ sym (xor_self (1 * m))
-digit_times (suc zero) (suc (suc e)) m hd he = not_digit he
-digit_times (suc (suc d)) e m hd he = not_digit hd
+digit_times d e m hd he =
+    at_digit (λ d. bit_xor d e * m ≡ bit_xor (d * m) (e * m)) (ap (λ (t : ℕ). bit_xor t (e * m)) (sym (zero-mul m)))
+    (at_digit (λ e. bit_xor 1 e * m ≡ bit_xor (1 * m) (e * m)) (sym (xor_zero_r (1 * m)) ∙ ap (bit_xor (1 * m)) (sym (zero-mul m))) (zero-mul m ∙ sym (xor_self (1 * m))) e he)
+    d hd
 
 pub times_digit_additive : (d : ℕ) → d < 2 → Additive (λ x. d * x)
-times_digit_additive zero hd x y = zero-mul (bit_xor x y) ∙ sym (ap₂ bit_xor (zero-mul x) (zero-mul y))
-times_digit_additive (suc zero) hd x y = one-mul (bit_xor x y) ∙ sym (ap₂ bit_xor (one-mul x) (one-mul y))
-times_digit_additive (suc (suc d)) hd x y = not_digit hd
+times_digit_additive =
+    at_digit (λ d. Additive (λ x. d * x))
+    (λ x y. zero-mul (bit_xor x y) ∙ sym (ap₂ bit_xor (zero-mul x) (zero-mul y))) (λ x y. one-mul (bit_xor x y) ∙ sym (ap₂ bit_xor (one-mul x) (one-mul y)))
 
 pub coefficient_times_additive : (i m : ℕ) → Additive (λ p. coefficient p i * m)
-coefficient_times_additive i m x y =
-    ap (λ (t : ℕ). t % 2 * m) (xor_shr x y i) ∙ ap (λ (t : ℕ). t * m) (xor_mod (x / 2 ^ i) (y / 2 ^ i) 1)
-    ∙ digit_times (coefficient x i) (coefficient y i) m (coefficient_below x i) (coefficient_below y i)
+coefficient_times_additive i m x y = cc (xor_shr x y i, xor_mod (x / 2 ^ i) (y / 2 ^ i) 1, digit_times (coefficient x i) (coefficient y i) m (coefficient_below x i) (coefficient_below y i))
 
 -- ---- what holds at the powers of two holds at every number
-
--- a number of k + 1 digits is its highest digit and the rest
-module _ (k x : ℕ) where
-  abbrev top : ℕ
-  top = x / 2 ^ k * 2 ^ k
-
-  abbrev rest : ℕ
-  rest = x % 2 ^ k
-
-  parts : bit_xor top rest ≡ x
-  parts = xor_shifted (x / 2 ^ k) k rest (mod-lt x (pow_pos k)) ∙ split x k
-
-  top_digit : x < 2 ^ suc k → x / 2 ^ k < 2
-  top_digit h = shr_lt 1 k (subst (λ (n : ℕ). x < 2 ^ n) (sym (one-add k)) h)
 
 -- what holds at 0, at the powers of two and at sums of numbers at which it holds
 pub at_every_number : (P : ℕ → Type 0) → P 0 → ((x y : ℕ) → P x → P y → P (bit_xor x y))
     → (k : ℕ) → ((i : ℕ) → i < k → P (2 ^ i)) → (x : ℕ) → x < 2 ^ k → P x
 at_every_number P none sum zero basis x h = subst P (sym (lt-one h)) none
 at_every_number P none sum (suc k) basis x h =
-    subst P (parts k x)
-    (sum (top k x) (rest k x) (digit (x / 2 ^ k) (top_digit k x h))
-    (at_every_number P none sum k (λ i l. basis i (lt_of_lt_of_le l (le-suc k))) (rest k x) (mod-lt x (pow_pos k))))
-  where
-    digit : (d : ℕ) → d < 2 → P (d * 2 ^ k)
-    digit zero l = subst P (sym (zero-mul (2 ^ k))) none
-    digit (suc zero) l = subst P (sym (one-mul (2 ^ k))) (basis k (suc-le-suc (le_refl k)))
-    digit (suc (suc d)) l = not_digit l
+    let top : x / 2 ^ k < 2 = shr_lt 1 k (subst (λ (n : ℕ). x < 2 ^ n) (sym (one-add k)) h) in
+    subst P (xor_shifted (x / 2 ^ k) k (x % 2 ^ k) (mod-lt x (pow_pos k)) ∙ split x k)
+    (sum (x / 2 ^ k * 2 ^ k) (x % 2 ^ k)
+    (at_digit (λ d. P (d * 2 ^ k)) (subst P (sym (zero-mul (2 ^ k))) none) (subst P (sym (one-mul (2 ^ k))) (basis k (omega arith))) (x / 2 ^ k) top)
+    (at_every_number P none sum k (λ i l. basis i (omega arith)) (x % 2 ^ k) (mod-lt x (pow_pos k))))
 
 pub additive_same : (f g : ℕ → ℕ) → Additive f → Additive g → (k : ℕ) → ((i : ℕ) → i < k → f (2 ^ i) ≡ g (2 ^ i))
     → (x : ℕ) → x < 2 ^ k → f x ≡ g x
@@ -104,7 +86,7 @@ pub record Bilinear (f : ℕ → ℕ → ℕ) : Type 0 where
 abbrev pub bilinear_test : ℕ → (ℕ → ℕ → ℕ) → (ℕ → ℕ → ℕ) → Bool
 bilinear_test w f g = all w (λ j. all w (λ i. eqb (f (2 ^ i) (2 ^ j)) (g (2 ^ i) (2 ^ j))))
 
-pub bilinear_same : (w : ℕ) (f g : ℕ → ℕ → ℕ) → Bilinear f → Bilinear g → T (bilinear_test w f g)
+pub bilinear_same : (w : ℕ) (f g : ℕ → ℕ → ℕ) → Bilinear f → Bilinear g → bilinear_test w f g ≡ true
     → (x y : ℕ) → x < 2 ^ w → y < 2 ^ w → f x y ≡ g x y
 bilinear_same w f g F G t x y hx hy =
     additive_same (f x) (g x) (F.right x) (G.right x) w
@@ -114,7 +96,7 @@ bilinear_same w f g F G t x y hx hy =
     x hx)
     y hy
 
-pub bilinear_below : (w : ℕ) (f : ℕ → ℕ → ℕ) → Bilinear f → T (all w (λ j. all w (λ i. ltb (f (2 ^ i) (2 ^ j)) (2 ^ w))))
+pub bilinear_below : (w : ℕ) (f : ℕ → ℕ → ℕ) → Bilinear f → all w (λ j. all w (λ i. ltb (f (2 ^ i) (2 ^ j)) (2 ^ w))) ≡ true
     → (x y : ℕ) → x < 2 ^ w → y < 2 ^ w → f x y < 2 ^ w
 bilinear_below w f F t x y hx hy =
     additive_below w (f x) (F.right x) w

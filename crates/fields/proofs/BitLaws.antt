@@ -1,20 +1,15 @@
 -- The numbers 0 and 1 are a field.
-use Rattle.std.proofs.Common.{◌≡◌, ℕ, zero, suc, ◌*◌, ◌<◌, sym, ap, subst, mul_assoc, mul_comm, one-mul, zero-mul, arith, lit<, lit≤}
+use Rattle.std.proofs.Common.{◌≡◌, ℕ, ◌*◌, ◌<◌, sym, ap, subst, mul_assoc, mul_comm, one-mul, zero-mul, arith, lit<, lit≤}
 use lib.Bits.{bit_xor}
 use Rattle.fields.specs.Meaning.{FieldLaws}
 use Rattle.fields.specs.Polynomials.{gf2}
-use Rattle.fields.proofs.Additive.{times_digit_additive}
-
-at_both : (P : ℕ → Type 0) → P 0 → P 1 → (x : ℕ) → x < 2 → P x
-at_both P p q zero h = p
-at_both P p q (suc zero) h = q
-at_both P p q (suc (suc x)) h = absurd (omega arith)
+use Rattle.fields.proofs.Additive.{at_digit, times_digit_additive}
 
 pub bit_laws : FieldLaws gf2
 bit_laws = record {
   some_bits = lit≤ tt;
   few_bits = lit≤ tt;
-  closed = λ x y hx hy. at_both (λ x. x * y < 2) (subst (λ (n : ℕ). n < 2) (sym (zero-mul y)) (lit< tt)) (subst (λ (n : ℕ). n < 2) (sym (one-mul y)) hy) x hx;
+  closed = λ x y hx hy. at_digit (λ x. x * y < 2) (subst (λ (n : ℕ). n < 2) (sym (zero-mul y)) (lit< tt)) (subst (λ (n : ℕ). n < 2) (sym (one-mul y)) hy) x hx;
   commutes = λ x y hx hy. mul_comm x y;
   associates = λ x y z hx hy hz. mul_assoc x y z;
   distributes = λ x y z hx hy hz. times_digit_additive x hx y z;
@@ -24,5 +19,5 @@ bit_laws = record {
   roll_nonzero = λ i h e. omega (arith, e);
   roll_once = λ i j hi hj e. omega arith;
   c_below = lit< tt;
-  c_rootless = at_both (λ z. bit_xor (z * z) z ≡ 1 → ⊥) (λ e. omega (arith, e)) (λ e. omega (arith, e));
+  c_rootless = at_digit (λ z. bit_xor (z * z) z ≡ 1 → ⊥) (λ e. omega (arith, e)) (λ e. omega (arith, e));
 }

@@ -1,9 +1,11 @@
 -- Identities between polynomials over the elements of a field whose sum is the exclusive or:
 -- two expressions with one normal form, a sorted list of sorted monomials, are equal at all elements.
-use Rattle.std.proofs.Common.{◌≡◌, ℕ, zero, suc, ◌<◌, Bool, true, false, cond, ◌&&◌, ◌||◌, T, eqb, ltb, leb, List, [], ◌∷◌, sym, refl, ap, ◌∙◌, ap₂, eqb→eq, pow_pos, pow_mono}
+use Rattle.std.proofs.Common.{◌≡◌, ℕ, zero, suc, ◌<◌, Bool, cond, eqb, leb, List, [], ◌∷◌, get_or, nat_cmp, is_lt, sym, refl, ap, ◌∙◌, ap₂, pow_pos, pow_mono}
+use Rattle.std.specs.Cmp.Lexicographic.{pointwise, slice_cmp}
+use Rattle.std.proofs.lemmas.Bool.{cond_both}
+use Rattle.std.proofs.lemmas.Slice.Eq.{bytes_eq-Decides}
 use lib.Bits.{bit_xor, xor_assoc, xor_comm, xor_self, xor_zero_r, xor_lt}
 use Rattle.fields.specs.Meaning.{FieldMeaning, FieldLaws, size}
-use Rattle.fields.proofs.Tests.{both_left, both_right}
 
 pub data Expr : Type 0 where
   var : ℕ → Expr
@@ -12,13 +14,8 @@ pub data Expr : Type 0 where
   sum : Expr → Expr → Expr
   prod : Expr → Expr → Expr
 
-abbrev pub look : List ℕ → ℕ → ℕ
-look [] i = 0
-look (x ∷ xs) zero = x
-look (x ∷ xs) (suc i) = look xs i
-
 abbrev pub eval : FieldMeaning → List ℕ → Expr → ℕ
-eval f vs (var i) = look vs i
+eval f vs (var i) = get_or vs i 0
 eval f vs nought = 0
 eval f vs one = 1
 eval f vs (sum a b) = bit_xor (eval f vs a) (eval f vs b)
@@ -38,21 +35,12 @@ abbrev mul_mono : List ℕ → List ℕ → List ℕ
 mul_mono [] n = n
 mul_mono (v ∷ m) n = with_var v (mul_mono m n)
 
-abbrev same : List ℕ → List ℕ → Bool
-same [] [] = true
-same [] (y ∷ ys) = false
-same (x ∷ xs) [] = false
-same (x ∷ xs) (y ∷ ys) = eqb x y && same xs ys
-
 abbrev before : List ℕ → List ℕ → Bool
-before [] [] = false
-before [] (y ∷ ys) = true
-before (x ∷ xs) [] = false
-before (x ∷ xs) (y ∷ ys) = ltb x y || (eqb x y && before xs ys)
+before m n = is_lt (slice_cmp nat_cmp m n)
 
 abbrev with_mono : List ℕ → List (List ℕ) → List (List ℕ)
 with_mono m [] = m ∷ []
-with_mono m (n ∷ P) = cond (same m n) P (cond (before m n) (m ∷ n ∷ P) (n ∷ with_mono m P))
+with_mono m (n ∷ P) = cond (pointwise eqb m n) P (cond (before m n) (m ∷ n ∷ P) (n ∷ with_mono m P))
 
 abbrev add : List (List ℕ) → List (List ℕ) → List (List ℕ)
 add [] Q = Q
@@ -72,13 +60,6 @@ normal nought = []
 normal one = [] ∷ []
 normal (sum a b) = add (normal a) (normal b)
 normal (prod a b) = mul (normal a) (normal b)
-
-same→eq : (m n : List ℕ) → T (same m n) → m ≡ n
-same→eq [] [] t = refl
-same→eq [] (y ∷ ys) t = absurd t
-same→eq (x ∷ xs) [] t = absurd t
-same→eq (x ∷ xs) (y ∷ ys) t =
-    ap₂ (λ (h : ℕ) (k : List ℕ). h ∷ k) (eqb→eq x y (both_left (eqb x y) (same xs ys) t)) (same→eq xs ys (both_right (eqb x y) (same xs ys) t))
 
 -- ---- what a normal form means
 
@@ -102,18 +83,19 @@ module _ (f : FieldMeaning) (L : FieldLaws f) where
   times_one x h = L.commutes x 1 h one_below ∙ L.neutral x h
 
   pub sum_times : (x y z : ℕ) → x < size f → y < size f → z < size f → f.product (bit_xor x y) z ≡ bit_xor (f.product x z) (f.product y z)
-  sum_times x y z hx hy hz =
-      L.commutes (bit_xor x y) z (xor_below x y hx hy) hz ∙ L.distributes z x y hz hx hy ∙ ap₂ bit_xor (L.commutes z x hz hx) (L.commutes z y hz hy)
+  sum_times x y z hx hy hz = cc (L.commutes (bit_xor x y) z (xor_below x y hx hy) hz, L.distributes z x y hz hx hy, L.commutes z x hz hx, L.commutes z y hz hy)
 
   left_comm : (x y z : ℕ) → x < size f → y < size f → z < size f → f.product x (f.product y z) ≡ f.product y (f.product x z)
-  left_comm x y z hx hy hz =
-      sym (L.associates x y z hx hy hz) ∙ ap (λ (t : ℕ). f.product t z) (L.commutes x y hx hy) ∙ L.associates y x z hy hx hz
+  left_comm x y z hx hy hz = cc (L.associates x y z hx hy hz, L.commutes x y hx hy, L.associates y x z hy hx hz)
 
   module _ (vs : List ℕ) (bs : Bounded f vs) where
-    look_below : (i : ℕ) → look vs i < size f
-    look_below i = go vs bs i
+    abbrev look : ℕ → ℕ
+    look i = get_or vs i 0
+
+    look_below : (i : ℕ) → look i < size f
+    look_below = go vs bs
       where
-        go : (xs : List ℕ) → Bounded f xs → (i : ℕ) → look xs i < size f
+        go : (xs : List ℕ) → Bounded f xs → (i : ℕ) → get_or xs i 0 < size f
         go [] b i = zero_below
         go (x ∷ xs) b zero = b.0
         go (x ∷ xs) b (suc i) = go xs b.1 i
@@ -127,7 +109,7 @@ module _ (f : FieldMeaning) (L : FieldLaws f) where
 
     mono : List ℕ → ℕ
     mono [] = 1
-    mono (v ∷ m) = f.product (look vs v) (mono m)
+    mono (v ∷ m) = f.product (look v) (mono m)
 
     poly : List (List ℕ) → ℕ
     poly [] = 0
@@ -136,29 +118,24 @@ module _ (f : FieldMeaning) (L : FieldLaws f) where
     mono_below : (m : List ℕ) → mono m < size f
     unfolding mono
     mono_below [] = one_below
-    mono_below (v ∷ m) = L.closed (look vs v) (mono m) (look_below v) (mono_below m)
+    mono_below (v ∷ m) = L.closed (look v) (mono m) (look_below v) (mono_below m)
 
     poly_below : (P : List (List ℕ)) → poly P < size f
     unfolding poly
     poly_below [] = zero_below
     poly_below (m ∷ P) = xor_below (mono m) (poly P) (mono_below m) (poly_below P)
 
-    with_var_is : (v : ℕ) (m : List ℕ) → mono (with_var v m) ≡ f.product (look vs v) (mono m)
+    with_var_is : (v : ℕ) (m : List ℕ) → mono (with_var v m) ≡ f.product (look v) (mono m)
     unfolding mono
     with_var_is v [] = refl
-    with_var_is v (u ∷ m) = go (leb v u) (with_var_is v m)
-      where
-        go : (b : Bool) → mono (with_var v m) ≡ f.product (look vs v) (mono m)
-            → mono (cond b (v ∷ u ∷ m) (u ∷ with_var v m)) ≡ f.product (look vs v) (f.product (look vs u) (mono m))
-        go true e = refl
-        go false e = ap (f.product (look vs u)) e ∙ left_comm (look vs u) (look vs v) (mono m) (look_below u) (look_below v) (mono_below m)
+    with_var_is v (u ∷ m) =
+        cond_both (leb v u) (v ∷ u ∷ m) (u ∷ with_var v m) (λ l. mono l ≡ f.product (look v) (f.product (look u) (mono m))) (λ _. refl)
+        (λ _. ap (f.product (look u)) (with_var_is v m) ∙ left_comm (look u) (look v) (mono m) (look_below u) (look_below v) (mono_below m))
 
     mul_mono_is : (m n : List ℕ) → mono (mul_mono m n) ≡ f.product (mono m) (mono n)
     unfolding mono
     mul_mono_is [] n = sym (L.neutral (mono n) (mono_below n))
-    mul_mono_is (v ∷ m) n =
-        with_var_is v (mul_mono m n) ∙ ap (f.product (look vs v)) (mul_mono_is m n)
-        ∙ sym (L.associates (look vs v) (mono m) (mono n) (look_below v) (mono_below m) (mono_below n))
+    mul_mono_is (v ∷ m) n = cc (with_var_is v (mul_mono m n), mul_mono_is m n, L.associates (look v) (mono m) (mono n) (look_below v) (mono_below m) (mono_below n))
 
     cancel : (a b : ℕ) → b ≡ bit_xor a (bit_xor a b)
     cancel a b = sym (sym (xor_assoc a a b) ∙ ap (λ (t : ℕ). bit_xor t b) (xor_self a))
@@ -169,13 +146,11 @@ module _ (f : FieldMeaning) (L : FieldLaws f) where
     with_mono_is : (m : List ℕ) (P : List (List ℕ)) → poly (with_mono m P) ≡ bit_xor (mono m) (poly P)
     unfolding poly
     with_mono_is m [] = refl
-    with_mono_is m (n ∷ P) = go (same m n) (before m n) (same→eq m n) (with_mono_is m P)
-      where
-        go : (b d : Bool) → (T b → m ≡ n) → poly (with_mono m P) ≡ bit_xor (mono m) (poly P)
-            → poly (cond b P (cond d (m ∷ n ∷ P) (n ∷ with_mono m P))) ≡ bit_xor (mono m) (bit_xor (mono n) (poly P))
-        go true d h e = cancel (mono m) (poly P) ∙ ap (λ (t : List ℕ). bit_xor (mono m) (bit_xor (mono t) (poly P))) (h tt)
-        go false true h e = refl
-        go false false h e = ap (bit_xor (mono n)) e ∙ swap (mono m) (mono n) (poly P)
+    with_mono_is m (n ∷ P) =
+        cond_both (pointwise eqb m n) P _ (λ Q. poly Q ≡ bit_xor (mono m) (bit_xor (mono n) (poly P)))
+        (λ e. cancel (mono m) (poly P) ∙ ap (λ (t : List ℕ). bit_xor (mono m) (bit_xor (mono t) (poly P))) ((bytes_eq-Decides m n).0 e))
+        (λ _. cond_both (before m n) (m ∷ n ∷ P) (n ∷ with_mono m P) (λ Q. poly Q ≡ bit_xor (mono m) (bit_xor (mono n) (poly P))) (λ _. refl)
+        (λ _. ap (bit_xor (mono n)) (with_mono_is m P) ∙ swap (mono m) (mono n) (poly P)))
 
     add_is : (P Q : List (List ℕ)) → poly (add P Q) ≡ bit_xor (poly P) (poly Q)
     unfolding poly
@@ -186,19 +161,17 @@ module _ (f : FieldMeaning) (L : FieldLaws f) where
     unfolding poly
     scale_is m [] = sym (times_zero (mono m) (mono_below m))
     scale_is m (n ∷ P) =
-        with_mono_is (mul_mono m n) (scale m P) ∙ ap₂ bit_xor (mul_mono_is m n) (scale_is m P)
-        ∙ sym (L.distributes (mono m) (mono n) (poly P) (mono_below m) (mono_below n) (poly_below P))
+        cc (with_mono_is (mul_mono m n) (scale m P), mul_mono_is m n, scale_is m P, L.distributes (mono m) (mono n) (poly P) (mono_below m) (mono_below n) (poly_below P))
 
     mul_is : (P Q : List (List ℕ)) → poly (mul P Q) ≡ f.product (poly P) (poly Q)
     unfolding poly
     mul_is [] Q = sym (zero_times (poly Q) (poly_below Q))
     mul_is (m ∷ P) Q =
-        add_is (scale m Q) (mul P Q) ∙ ap₂ bit_xor (scale_is m Q) (mul_is P Q)
-        ∙ sym (sum_times (mono m) (poly P) (poly Q) (mono_below m) (poly_below P) (poly_below Q))
+        cc (add_is (scale m Q) (mul P Q), scale_is m Q, mul_is P Q, sum_times (mono m) (poly P) (poly Q) (mono_below m) (poly_below P) (poly_below Q))
 
     normal_is : (e : Expr) → poly (normal e) ≡ eval f vs e
     unfolding poly mono
-    normal_is (var i) = xor_zero_r (f.product (look vs i) 1) ∙ times_one (look vs i) (look_below i)
+    normal_is (var i) = xor_zero_r (f.product (look i) 1) ∙ times_one (look i) (look_below i)
     normal_is nought = refl
     normal_is one = refl
     normal_is (sum a b) = add_is (normal a) (normal b) ∙ ap₂ bit_xor (normal_is a) (normal_is b)

@@ -1,4 +1,5 @@
 pub mod Tests
+pub mod Sizes
 pub mod Additive
 pub mod PolynomialLaws
 pub mod Identities

@@ -1,11 +1,13 @@
 -- The pairs over a field are a field.
-use Rattle.std.proofs.Common.{◌≡◌, ℕ, zero, suc, ◌+◌, ◌*◌, ◌/◌, ◌%◌, ◌<◌, ◌≤◌, Bool, true, false, cond, T, leb, List, [], ◌∷◌, sym, refl, ap, ◌∙◌, subst, ap₂, mod-lt, mod-eq_of_lt, zero-mul, arith, leb→le, pow_pos, pow-add, shl_lt, shr_lt}
+use Rattle.std.proofs.Common.{◌≡◌, ◌≢◌, ℕ, zero, suc, ◌+◌, ◌*◌, ◌/◌, ◌%◌, ◌<◌, ◌≤◌, leb, List, [], ◌∷◌, sym, refl, ◌∙◌, subst, ap₂, mod-lt, mod-eq_of_lt, zero-mul, arith, leb-true, pow_pos, pow-add, shl_lt, shr_lt}
 use native.Mathlib.Nat.{div-eq_of_lt}
 use lib.Arith.{digits_lt}
-use lib.Bits.{bit_xor, xor_shr, xor_mod, xor_block, xor_assoc, xor_self, xor_zero_r}
+use lib.Bits.{bit_xor, xor_shr, xor_mod, xor_block}
 use lib.Pow.{split, high, low, shl-shr}
+use Rattle.std.proofs.lemmas.Bool.{cond_both}
 use Rattle.fields.specs.Meaning.{FieldMeaning, FieldLaws, size}
 use Rattle.fields.specs.Pairs.{upper, lower, pair_product, doubled, pair, norm}
+use Rattle.fields.proofs.Additive.{xor_same}
 use Rattle.fields.proofs.Identities.{Expr, var, nought, one, sum, prod, eval, solve, eval_below, Bounded, one_below, times_zero}
 
 -- ---- the coefficients of up to three pairs, A B, D E and G H, and c, as variables of expressions
@@ -130,23 +132,21 @@ module _ (f : FieldMeaning) (L : FieldLaws f) where
   neutral : (x : ℕ) → x < size (doubled f) → pair_product f 1 x ≡ x
   unfolding pair_product
   neutral x hx =
-      ap₂ (λ (s t : ℕ). of_pairs s t (x / size f) (x % size f)) (div-eq_of_lt (one_below f L)) (mod-eq_of_lt (one_below f L))
-      ∙ ap₂ join
-      (solve f L (one_pair x) (bounded_one_pair x hx) (U nought one A B) A refl)
-      (solve f L (one_pair x) (bounded_one_pair x hx) (W nought one A B) B refl)
-      ∙ split x f.width
+      cc (
+        div-eq_of_lt (one_below f L),
+        mod-eq_of_lt (one_below f L),
+        solve f L (one_pair x) (bounded_one_pair x hx) (U nought one A B) A refl,
+        solve f L (one_pair x) (bounded_one_pair x hx) (W nought one A B) B refl,
+        split x f.width,
+      )
 
   -- ---- inverses, by the norm
 
-  quotient : (x y : ℕ) → x < size f → y < size f → (x ≡ 0 → ⊥) → f.product x y ≡ 0 → y ≡ 0
+  -- a product that is 0 has a factor that is 0
+  pub quotient : (x y : ℕ) → x < size f → y < size f → (x ≢ 0) → f.product x y ≡ 0 → y ≡ 0
   quotient x y hx hy ne e =
       let (i, hi, u) = L.inverts x hx ne in
-      sym (L.neutral y hy) ∙ ap (λ (t : ℕ). f.product t y) (sym u)
-      ∙ solve f L (x ∷ y ∷ i ∷ []) (hx, (hy, (hi, tt))) (prod (prod A C) B) (prod C (prod A B)) refl
-      ∙ ap (f.product i) e ∙ times_zero f L i hi
-
-  even : (x y : ℕ) → bit_xor x y ≡ 0 → x ≡ y
-  even x y e = sym (xor_zero_r x) ∙ ap (bit_xor x) (sym (xor_self y)) ∙ sym (xor_assoc x y y) ∙ ap (λ (t : ℕ). bit_xor t y) e
+      cc (L.neutral y hy, times_zero f L i hi, solve f L (x ∷ y ∷ i ∷ []) (hx, (hy, (hi, tt))) (prod (prod A C) B) (prod C (prod A B)) refl)
 
   norm_zero : (a b : ℕ) → a < size f → b < size f → (a ≡ 0 → b ≡ 0 → ⊥) → eval f (a ∷ b ∷ f.c ∷ []) N ≡ 0 → ⊥
   norm_zero zero b ha hb ne e =
@@ -156,19 +156,14 @@ module _ (f : FieldMeaning) (L : FieldLaws f) where
       let (i, hi, u) = L.inverts (suc a) ha (λ z. omega (arith, z)) in
       let z : ℕ = f.product b i in
       let hz : z < size f = L.closed b i hb hi in
-      L.c_rootless z hz
-      (even (bit_xor (f.product z z) z) f.c
-      (solve f L (z ∷ f.c ∷ []) (hz, (L.c_below, tt)) (sum (sum (prod A A) A) B) (sum (sum (prod A A) (prod one A)) (prod (prod one one) B)) refl
-      ∙ ap (λ (t : ℕ). bit_xor (bit_xor (f.product z z) (f.product t z)) (f.product (f.product t t) f.c)) (sym u)
-      ∙ solve f L (suc a ∷ b ∷ f.c ∷ i ∷ []) (ha, (hb, (L.c_below, (hi, tt))))
-      (sum (sum (prod (prod B D) (prod B D)) (prod (prod A D) (prod B D))) (prod (prod (prod A D) (prod A D)) C)) (prod (prod D D) N) refl
-      ∙ ap (f.product (f.product i i)) e
-      ∙ times_zero f L (f.product i i) (L.closed i i hi hi)))
+      let at_one = solve f L (z ∷ f.c ∷ []) (hz, (L.c_below, tt)) (sum (sum (prod A A) A) B) (sum (sum (prod A A) (prod one A)) (prod (prod one one) B)) refl in
+      let at_a =
+      solve f L (suc a ∷ b ∷ f.c ∷ i ∷ []) (ha, (hb, (L.c_below, (hi, tt))))
+      (sum (sum (prod (prod B D) (prod B D)) (prod (prod A D) (prod B D))) (prod (prod (prod A D) (prod A D)) C)) (prod (prod D D) N) refl in
+      L.c_rootless z hz (xor_same (bit_xor (f.product z z) z) f.c (cc (times_zero f L (f.product i i) (L.closed i i hi hi))))
 
-  pub nonzero_norm : (x : ℕ) → x < size (doubled f) → (x ≡ 0 → ⊥) → eval f (one_pair x) N ≡ 0 → ⊥
-  nonzero_norm x hx ne =
-      norm_zero (x / size f) (x % size f) (up x hx) (down x)
-      (λ p q. ne (sym (split x f.width) ∙ ap₂ join p q ∙ ap (λ (t : ℕ). t + 0) (zero-mul (size f))))
+  pub nonzero_norm : (x : ℕ) → x < size (doubled f) → (x ≢ 0) → eval f (one_pair x) N ≡ 0 → ⊥
+  nonzero_norm x hx ne = grind (arith, norm_zero, up, down, split, zero-mul)
 
   -- the inverse, from the inverse n of the norm
   pub pair_inverse : (x n : ℕ) → x < size (doubled f) → n < size f → f.product (eval f (one_pair x) N) n ≡ 1
@@ -185,14 +180,16 @@ module _ (f : FieldMeaning) (L : FieldLaws f) where
       let hs : s < size f = eval_below f L vs bs (prod A D) in
       let ht : t < size f = eval_below f L vs bs (prod (sum A B) D) in (
         join_below s t hs ht,
-        ap₂ (λ (s t : ℕ). of_pairs a b s t) (high s f.width ht) (low s f.width ht)
-            ∙ ap₂ join
-            (solve f L vs bs (U A B (prod A D) (prod (sum A B) D)) nought refl)
-            (solve f L vs bs (W A B (prod A D) (prod (sum A B) D)) (prod N D) refl ∙ u)
-            ∙ ap (λ (t : ℕ). t + 1) (zero-mul (size f)),
+        cc (
+          high s f.width ht,
+          low s f.width ht,
+          solve f L vs bs (U A B (prod A D) (prod (sum A B) D)) nought refl,
+          solve f L vs bs (W A B (prod A D) (prod (sum A B) D)) (prod N D) refl,
+          zero-mul (size f),
+        ),
       )
 
-  inverts : (x : ℕ) → x < size (doubled f) → (x ≡ 0 → ⊥)
+  inverts : (x : ℕ) → x < size (doubled f) → (x ≢ 0)
       → (y : ℕ) × (y < size (doubled f)) × (pair_product f x y ≡ 1)
   inverts x hx ne =
       let (n, hn, u) = L.inverts (eval f (one_pair x) N) (eval_below f L (one_pair x) (bounded_one_pair x hx) N) (nonzero_norm x hx ne) in
@@ -202,11 +199,12 @@ module _ (f : FieldMeaning) (L : FieldLaws f) where
   rootless : (z : ℕ) → z < size (doubled f) → bit_xor (pair_product f z z) z ≡ f.c * size f → ⊥
   rootless z hz e =
       L.c_rootless (z / size f) (up z hz)
-      (solve f L (one_pair z) (bounded_one_pair z hz) (sum (prod A A) A) (sum (U A B A B) A) refl
-      ∙ ap (λ (t : ℕ). bit_xor t (z / size f)) (sym (product_up z z hz hz))
-      ∙ sym (xor_shr (pair_product f z z) z f.width)
-      ∙ ap (λ (t : ℕ). t / size f) e
-      ∙ shl-shr f.c f.width)
+      (cc (
+        solve f L (one_pair z) (bounded_one_pair z hz) (sum (prod A A) A) (sum (U A B A B) A) refl,
+        product_up z z hz hz,
+        xor_shr (pair_product f z z) z f.width,
+        shl-shr f.c f.width,
+      ))
 
   pub doubled_laws : f.width ≤ 4 → FieldLaws (doubled f)
   doubled_laws h = record {
@@ -225,9 +223,5 @@ module _ (f : FieldMeaning) (L : FieldLaws f) where
     c_rootless = rootless;
   }
 
-  one_of : (b : Bool) → (T b → f.width ≤ 4) → FieldLaws (cond b (doubled f) f)
-  one_of true h = doubled_laws (h tt)
-  one_of false h = L
-
   pub pair_laws : FieldLaws (pair f)
-  pair_laws = one_of (leb f.width 4) (leb→le f.width 4)
+  pair_laws = cond_both (leb f.width 4) (doubled f) f FieldLaws (λ e. doubled_laws (leb-true f.width 4 e)) (λ _. L)

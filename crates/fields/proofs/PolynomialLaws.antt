@@ -1,10 +1,12 @@
 -- The laws of the fields of polynomials: the product is bilinear, so that what is left is computed.
-use Rattle.std.proofs.Common.{◌≡◌, ℕ, zero, suc, ◌+◌, ◌-◌, ◌*◌, ◌^◌, ◌<◌, Bool, true, false, not, ◌&&◌, ◌||◌, T, eqb, ltb, leb, List, [], ◌∷◌, sym, refl, ap, ◌∙◌, subst, arith, eqb→eq, ltb→lt, leb→le, T_not}
+use Rattle.std.proofs.Common.{◌≡◌, ◌≢◌, ℕ, zero, suc, ◌+◌, ◌-◌, ◌*◌, ◌^◌, ◌<◌, Bool, true, false, not, ◌&&◌, ◌||◌, T, eqb, ltb, leb, List, [], ◌∷◌, get_or, sym, refl, ap, ◌∙◌, subst, ⊎_elim, arith, eqb-true, ltb-true, leb-true}
 use lib.Bits.{bit_xor}
-use lib.Dec.{eqb_refl}
+use lib.Ieee.Bits.{is_true}
+use Rattle.std.specs.List.{list_all}
+use Rattle.std.proofs.lemmas.Bool.{and_parts, or_cases, not-true, eqb-false}
 use Rattle.fields.specs.Meaning.{FieldLaws}
 use Rattle.fields.specs.Polynomials.{coefficient, carryless, remainder, product_modulo, power, polynomials}
-use Rattle.fields.proofs.Tests.{all, at, same_at, below_at, both_left, both_right, every, test_at, passed}
+use Rattle.fields.proofs.Tests.{all, at, same_at, below_at, passed}
 use Rattle.fields.proofs.Additive.{
   Additive,
   Bilinear,
@@ -104,16 +106,12 @@ tests w m c =
 
 -- ---- what is computed, at every element
 
-pub unless_zero : (x : ℕ) (b : Bool) → (x ≡ 0 → ⊥) → T (eqb x 0 || b) → T b
-unless_zero x b ne t = go (eqb x 0) (λ e. ne (eqb→eq x 0 e)) t
-  where
-    go : (z : Bool) → (T z → ⊥) → T (z || b) → T b
-    go true no' u = absurd (no' tt)
-    go false no' u = u
+pub unless_zero : (x : ℕ) (b : Bool) → (x ≢ 0) → (eqb x 0 || b) ≡ true → b ≡ true
+unless_zero x b ne t = ⊎_elim (λ e. absurd (ne (eqb-true x 0 e))) (λ e. e) (or_cases (eqb x 0) b t)
 
-module _ (w m c : ℕ) (t : T (every (tests w m c))) where
-  pass : (i : ℕ) → T (test_at (tests w m c) i)
-  pass = passed (tests w m c) t
+module _ (w m c : ℕ) (t : T (list_all (λ b. b) (tests w m c))) where
+  pass : (i : ℕ) → get_or (tests w m c) i true ≡ true
+  pass = passed (tests w m c) (is_true (list_all (λ b. b) (tests w m c)) t)
 
   abbrev mul : ℕ → ℕ → ℕ
   mul = product_modulo w m
@@ -137,11 +135,11 @@ module _ (w m c : ℕ) (t : T (every (tests w m c))) where
       (at w (λ k. bilinear_test w (λ x y. mul (mul x y) (2 ^ k)) (λ x y. mul x (mul y (2 ^ k)))) (pass 4) k hk) x y hx hy)
       z hz
 
-  inverts : (x : ℕ) → x < 2 ^ w → (x ≡ 0 → ⊥) → (y : ℕ) × (y < 2 ^ w) × (mul x y ≡ 1)
+  inverts : (x : ℕ) → x < 2 ^ w → (x ≢ 0) → (y : ℕ) × (y < 2 ^ w) × (mul x y ≡ 1)
   inverts x hx ne =
       let y : ℕ = reciprocal w m x in
-      let both : T (ltb y (2 ^ w) && eqb (mul x y) 1) = unless_zero x (ltb y (2 ^ w) && eqb (mul x y) 1) ne (at (2 ^ w) (inverts_test w m) (pass 6) x hx) in
-      (y, ltb→lt y (2 ^ w) (both_left (ltb y (2 ^ w)) (eqb (mul x y) 1) both), eqb→eq (mul x y) 1 (both_right (ltb y (2 ^ w)) (eqb (mul x y) 1) both))
+      let both = and_parts (ltb y (2 ^ w)) (eqb (mul x y) 1) (unless_zero x (ltb y (2 ^ w) && eqb (mul x y) 1) ne (at (2 ^ w) (inverts_test w m) (pass 6) x hx)) in
+      (y, ltb-true y (2 ^ w) both.0, eqb-true (mul x y) 1 both.1)
 
   -- ---- the powers of X, by doubling
 
@@ -155,7 +153,7 @@ module _ (w m c : ℕ) (t : T (every (tests w m c))) where
   twice_below = additive_below w (twice w m) twice_additive w (below_at w (2 ^ w) (λ i. twice w m (2 ^ i)) (pass 9))
 
   twice_power_below : (i : ℕ) → twice_power w m i < 2 ^ w
-  twice_power_below zero = ltb→lt 1 (2 ^ w) (pass 8)
+  twice_power_below zero = ltb-true 1 (2 ^ w) (pass 8)
   twice_power_below (suc i) = twice_below (twice_power w m i) (twice_power_below i)
 
   power_is : (i : ℕ) → power mul 2 i ≡ twice_power w m i
@@ -168,8 +166,8 @@ module _ (w m c : ℕ) (t : T (every (tests w m c))) where
 
   pub polynomial_laws : FieldLaws (polynomials w m c)
   polynomial_laws = record {
-    some_bits = leb→le 1 w (pass 0);
-    few_bits = leb→le w 8 (pass 1);
+    some_bits = leb-true 1 w (pass 0);
+    few_bits = leb-true w 8 (pass 1);
     closed = bilinear_below w mul linear (pass 2);
     commutes = bilinear_same w mul (λ x y. mul y x) linear (record { left = linear.right; right = linear.left }) (pass 3);
     associates = associates;
@@ -178,25 +176,23 @@ module _ (w m c : ℕ) (t : T (every (tests w m c))) where
     inverts = inverts;
     roll_below = λ i h. subst (λ (n : ℕ). n < 2 ^ w) (sym (power_is i)) (twice_power_below i);
     roll_nonzero = λ i h e.
-        let p : 0 < twice_power w m i = ltb→lt 0 (twice_power w m i) (at (2 ^ w - 1) (λ i. ltb 0 (twice_power w m i)) (pass 10) i (omega arith)) in
+        let p : 0 < twice_power w m i = ltb-true 0 (twice_power w m i) (at (2 ^ w - 1) (λ i. ltb 0 (twice_power w m i)) (pass 10) i (omega arith)) in
         omega (arith, e, power_is i);
     roll_once = λ i j hi hj e. sym (logs i hi) ∙ ap (log w m) e ∙ logs j hj;
-    c_below = ltb→lt c (2 ^ w) (pass 12);
-    c_rootless = λ z hz e.
-        T_not (eqb (at_square w m z) c) (at (2 ^ w) (λ z. not (eqb (at_square w m z) c)) (pass 13) z hz)
-        (subst (λ (n : ℕ). T (eqb n c)) (sym e) (eqb_refl c));
+    c_below = ltb-true c (2 ^ w) (pass 12);
+    c_rootless = λ z hz. eqb-false (at_square w m z) c (not-true (eqb (at_square w m z) c) (at (2 ^ w) (λ z. not (eqb (at_square w m z) c)) (pass 13) z hz));
   }
 
 -- ---- the three fields, each by one computed test
 
-pub gf8_computed : T (every (tests 3 0b1011 1))
+pub gf8_computed : T (list_all (λ b. b) (tests 3 0b1011 1))
 unfolding product_modulo carryless remainder
 gf8_computed = tt
 
-pub gf16_computed : T (every (tests 4 0b10011 8))
+pub gf16_computed : T (list_all (λ b. b) (tests 4 0b10011 8))
 unfolding product_modulo carryless remainder
 gf16_computed = tt
 
-pub gf256_computed : T (every (tests 8 0b100011101 32))
+pub gf256_computed : T (list_all (λ b. b) (tests 8 0b100011101 32))
 unfolding product_modulo carryless remainder
 gf256_computed = tt

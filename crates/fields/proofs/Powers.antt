@@ -13,6 +13,4 @@ module _ (f : FieldMeaning) (L : FieldLaws f) (x : ℕ) (hx : x < size f) where
   pub power_sum : (i j : ℕ) → power f.product x (i + j) ≡ f.product (power f.product x i) (power f.product x j)
   unfolding power
   power_sum zero j = ap (power f.product x) (zero-add j) ∙ sym (L.neutral (power f.product x j) (power_below j))
-  power_sum (suc i) j =
-      ap (power f.product x) (suc-add i j) ∙ ap (f.product x) (power_sum i j)
-      ∙ sym (L.associates x (power f.product x i) (power f.product x j) hx (power_below i) (power_below j))
+  power_sum (suc i) j = cc (suc-add i j, power_sum i j, L.associates x (power f.product x i) (power f.product x j) hx (power_below i) (power_below j))

@@ -1,5 +1,5 @@
 -- The pairs over a field of at most 4 bits with q elements: a * q + b stands for a t + b, where t t = t + c.
-use Rattle.std.specs.Prelude.{ℕ, ◌+◌, ◌*◌, ◌/◌, ◌%◌, cond, bit_xor, nat_le}
+use Rattle.std.specs.Prelude.{ℕ, ◌+◌, ◌*◌, ◌/◌, ◌%◌, if◌then◌else◌, bit_xor, nat_le}
 use Rattle.fields.specs.Meaning.{FieldMeaning, size}
 
 -- the two coefficients of (a t + b) (d t + e), over any sum and product
@@ -19,7 +19,7 @@ doubled f = record { width = f.width + f.width; product = pair_product f; roll =
 
 -- the pairs over f where it has at most 4 bits, and f itself where it has more
 abbrev pub pair : FieldMeaning → FieldMeaning
-pair f = cond (nat_le f.width 4) (doubled f) f
+pair f = if nat_le f.width 4 then doubled f else f
 
 -- the norm of a t + b, over any sum and product: 0 only where a and b are
 abbrev pub norm : {A : Type 0} → (A → A → A) → (A → A → A) → A → A → A → A

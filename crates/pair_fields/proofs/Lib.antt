@@ -1,1 +1,1 @@
-pub mod Coefficients
+pub mod WorkedPairs

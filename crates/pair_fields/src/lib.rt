@@ -1,7 +1,7 @@
 //! The pairs over a field: each field of at most 4 bits doubled, once for all of them.
 #![tactic(auto)]
 
-ghost use Rattle.std.specs.Prelude.{◌≡◌, ◌≤◌};
+ghost use Rattle.std.specs.Prelude.{◌≡◌, ◌≤◌, ◌/◌, ◌%◌, ◌^◌, nat_le};
 ghost use Rattle.fields.specs.Answers.{product_answer, inverse_answer};
 ghost use Rattle.fields.specs.Pairs.{doubled, pair};
 ghost use Rattle.pair_fields.specs.Pairs.{doubles_answer, norm_answer};
@@ -21,25 +21,41 @@ impl<F: Field> Pair<F> {
     /// The pairs over `base`.
     pub fn over(base: F) -> Self
         ensures base { result.base ≡ base }
-        ensures meaning { pair (F.Field.meaning result.base) ≡ pair (F.Field.meaning base) }
+        ensures meaning { pair (F.meaning result.base) ≡ pair (F.meaning base) }
     {
         Pair { base }
     }
 
     /// Whether there are pairs over the field below; 14 where it has more than 4 bits.
     pub fn doubles(&self) -> Result<(), Fault>
-        ensures { result ≡ doubles_answer (F.Field.meaning self.now.base) }
+        ensures { result ≡ doubles_answer (F.meaning self.now.base) }
     {
-        if self.base.width() > 4 {
-            return Err(Fault::field(FieldCause::NoDoubling));
+        if !self.has_pairs() {
+            return Err(Fault::from(FieldCause::NoDoubling));
         }
         Ok(())
     }
+
+    /// Whether the field below is narrow enough to double.
+    fn has_pairs(&self) -> bool
+        ensures { result ≡ nat_le (F.meaning self.now.base).width 4 }
+    {
+        self.base.width() <= 4
+    }
+}
+
+/// The coefficients a and b of the pair a t + b over a field of `w` bits.
+fn coefficients(w: u8, x: u16) -> (u16, u16)
+    requires { w ≤ 4 }
+    ensures upper { result.0 ≡ x / 2 ^ w }
+    ensures lower { result.1 ≡ x % 2 ^ w }
+{
+    (x >> w, x & ((1 << w) - 1))
 }
 
 /// b b + a b + a a c, which is 0 only where a t + b is.
 fn norm<F: Field>(base: &F, a: u16, b: u16) -> Result<u16, Fault>
-    ensures { result ≡ norm_answer (F.Field.meaning base.now) a b }
+    ensures { result ≡ norm_answer (F.meaning base.now) a b }
 {
     let aa = base.product(a, a)?;
     let low = base.product(b, a ^ b)?;
@@ -49,13 +65,12 @@ fn norm<F: Field>(base: &F, a: u16, b: u16) -> Result<u16, Fault>
 
 /// The product of two pairs over a field of at most 4 bits.
 fn pair_product<F: Field>(base: &F, x: u16, y: u16) -> Result<u16, Fault>
-    requires { (F.Field.meaning base.now).width ≤ 4 }
-    ensures { result ≡ product_answer (doubled (F.Field.meaning base.now)) x y }
+    requires { (F.meaning base.now).width ≤ 4 }
+    ensures { result ≡ product_answer (doubled (F.meaning base.now)) x y }
 {
     let w = base.width();
-    let mask = (1u16 << w) - 1;
-    let (a, b) = (x >> w, x & mask);
-    let (d, e) = (y >> w, y & mask);
+    let (a, b) = coefficients(w, x);
+    let (d, e) = coefficients(w, y);
     // (a + b) (d + e) + b e is the sum of the three products that have a factor t
     let ad = base.product(a, d)?;
     let be = base.product(b, e)?;
@@ -66,11 +81,11 @@ fn pair_product<F: Field>(base: &F, x: u16, y: u16) -> Result<u16, Fault>
 
 /// The inverse of a pair over a field of at most 4 bits, by the inverse of its norm.
 fn pair_inverse<F: Field>(base: &F, x: u16) -> Result<u16, Fault>
-    requires { (F.Field.meaning base.now).width ≤ 4 }
-    ensures { result ≡ inverse_answer (doubled (F.Field.meaning base.now)) x }
+    requires { (F.meaning base.now).width ≤ 4 }
+    ensures { result ≡ inverse_answer (doubled (F.meaning base.now)) x }
 {
     let w = base.width();
-    let (a, b) = (x >> w, x & ((1u16 << w) - 1));
+    let (a, b) = coefficients(w, x);
     let n = norm(base, a, b)?;
     let inverse = base.inverse(n)?;
     let up = base.product(a, inverse)?;
@@ -79,46 +94,44 @@ fn pair_inverse<F: Field>(base: &F, x: u16) -> Result<u16, Fault>
 }
 
 impl<F: Field> Field for Pair<F> {
-    ghost meaning = { λ p. pair (F.Field.meaning p.base) };
+    ghost meaning = { λ p. pair (F.meaning p.base) };
 
-    ghost lawful = { λ p. pair_laws (F.Field.meaning p.base) (F.Field.lawful p.base) };
+    ghost lawful = { λ p. pair_laws (F.meaning p.base) (F.lawful p.base) };
 
     fn width(&self) -> u8 {
         let w = self.base.width();
-        if w <= 4 { w + w } else { w }
+        if self.has_pairs() { w + w } else { w }
     }
 
     fn c(&self) -> u16 {
-        let w = self.base.width();
-        if w <= 4 {
-            self.base.c() << w
+        if self.has_pairs() {
+            self.base.c() << self.base.width()
         } else {
             self.base.c()
         }
     }
 
     fn product(&self, x: u16, y: u16) -> Result<u16, Fault> {
-        match self.doubles() {
-            Ok(()) => pair_product(&self.base, x, y),
-            Err(_) => self.base.product(x, y),
+        if self.has_pairs() {
+            pair_product(&self.base, x, y)
+        } else {
+            self.base.product(x, y)
         }
     }
 
     fn inverse(&self, x: u16) -> Result<u16, Fault> {
-        match self.doubles() {
-            Ok(()) => pair_inverse(&self.base, x),
-            Err(_) => self.base.inverse(x),
+        if self.has_pairs() {
+            pair_inverse(&self.base, x)
+        } else {
+            self.base.inverse(x)
         }
     }
 
     fn roll(&self, i: u16) -> Result<u16, Fault> {
-        let w = self.base.width();
-        if w > 4 {
-            return self.base.roll(i);
+        if self.has_pairs() {
+            Ok(self.roll_index(i)? + 1)
+        } else {
+            self.base.roll(i)
         }
-        if i >= (1u16 << (w + w)) - 1 {
-            return Err(Fault::field(FieldCause::Roll));
-        }
-        Ok(i + 1)
     }
 }

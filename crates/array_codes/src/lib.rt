@@ -9,7 +9,7 @@ ghost use Rattle.codes.proofs.ArrayLaws.{array_laws};
 ghost use Rattle.codes.proofs.ArrayWords.{array_generates};
 
 use binary_fields::Bit;
-use codes::{Code, Lawful};
+use codes::Code;
 use faults::{CodeCause, Fault};
 use fields::Field;
 
@@ -25,7 +25,7 @@ impl<V: Code> Array<V> {
     /// The array over a code.
     pub fn over(code: V) -> Array<V>
         ensures code { result.code ≡ code }
-        ensures meaning { array (V.Lawful.meaning result.code) ≡ array (V.Lawful.meaning code) }
+        ensures meaning { array (V.meaning result.code) ≡ array (V.meaning code) }
     {
         Array { code, bits: Bit }
     }
@@ -33,50 +33,48 @@ impl<V: Code> Array<V> {
     /// Whether the array has at most 512 places and 96 checks; 25 where it has more.
     /// Where it fits, its words are just the rows of the words of the code below.
     pub fn fits(&self) -> Result<(), Fault>
-        ensures value { result ≡ fits_answer (V.Lawful.meaning self.now.code) }
-        ensures words { WordsAreRows (V.Lawful.meaning self.now.code) }
+        ensures value { result ≡ fits_answer (V.meaning self.now.code) }
+        ensures words { WordsAreRows (V.meaning self.now.code) }
     {
-        rows_of_words(&self.code);
         if !small_enough(&self.code) {
-            return Err(Fault::code(CodeCause::ArraySize));
+            return Err(Fault::from(CodeCause::ArraySize));
         }
         Ok(())
     }
 }
 
-/// Where the array fits, its words are the rows of the words of the code.
-fn rows_of_words<V: Lawful>(code: &V)
-    ensures { WordsAreRows (V.Lawful.meaning code.now) }
-{}
-
 /// How many bits a symbol has.
-fn width<V: Code>(code: &V) -> usize
-    ensures value { result ≡ (V.Lawful.meaning code.now).field.width }
+fn bits<V: Code>(code: &V) -> usize
+    ensures value { result ≡ (V.meaning code.now).field.width }
     ensures some { 1 ≤ result }
     ensures few { result ≤ 8 }
 {
-    code.field().width() as usize
+    usize::from(code.field().width())
 }
 
 /// How many symbols a message has: no more than there are places.
-fn dimension<V: Code>(code: &V) -> usize
-    ensures value { result ≡ (V.Lawful.meaning code.now).dimension }
+#[tactic(auto, using(codes::proofs::Pigeonhole::few_symbols))]
+fn symbols<V: Code>(code: &V) -> usize
+    ensures value { result ≡ (V.meaning code.now).dimension }
     ensures few { result ≤ 512 }
 {
     code.dimension()
 }
 
+/// Whether the array has at most 512 places and 96 checks.
 fn small_enough<V: Code>(code: &V) -> bool
-    ensures { result ≡ array_fits (V.Lawful.meaning code.now) }
+    ensures { result ≡ array_fits (V.meaning code.now) }
 {
-    let (rows, checks, w) = (code.places(), code.checks(), width(code));
+    let (rows, checks, w) = (code.places(), code.checks(), bits(code));
     rows * (w + 1) <= 512 && rows + checks * w <= 96
 }
 
 /// `x` times 2 to the power `b`, both elements of the code's field.
+#[tactic(auto, using(crate::proofs::Products::times_bit_is))]
 fn times_bit<V: Code>(code: &V, x: u16, b: usize) -> Result<u16, Fault>
-    requires { (x < 2 ^ (V.Lawful.meaning code.now).field.width) × (b < (V.Lawful.meaning code.now).field.width) }
-    ensures { result ≡ Ok ((V.Lawful.meaning code.now).field.product x (2 ^ b)) }
+    requires element { x < 2 ^ (V.meaning code.now).field.width }
+    requires bit { b < (V.meaning code.now).field.width }
+    ensures { result ≡ Ok ((V.meaning code.now).field.product x (2 ^ b)) }
 {
     code.field().product(x, 1 << b)
 }
@@ -95,13 +93,14 @@ fn parity(w: usize, x: u16) -> u16
 
 /// The entry of a check of the array at a place.
 fn check_entry<V: Code>(code: &V, check: usize, place: usize) -> Result<u16, Fault>
-    requires { (check < (array (V.Lawful.meaning code.now)).checks) × (place < (array (V.Lawful.meaning code.now)).places) }
-    ensures { result ≡ Ok (array_entry (V.Lawful.meaning code.now) check place) }
+    requires check { check < (array (V.meaning code.now)).checks }
+    requires place { place < (array (V.meaning code.now)).places }
+    ensures { result ≡ Ok (array_entry (V.meaning code.now) check place) }
 {
-    let (rows, w) = (code.places(), width(code));
+    let (rows, w) = (code.places(), bits(code));
     let (row, column) = (place / (w + 1), place % (w + 1));
     if check < rows {
-        return Ok(if check == row { 1 } else { 0 });
+        return Ok(u16::from(check == row));
     }
     if column >= w {
         return Ok(0);
@@ -113,20 +112,21 @@ fn check_entry<V: Code>(code: &V, check: usize, place: usize) -> Result<u16, Fau
 
 /// The place of a message bit.
 fn bit_place<V: Code>(code: &V, index: usize) -> Result<usize, Fault>
-    requires { index < (array (V.Lawful.meaning code.now)).dimension }
-    ensures { result ≡ Ok (array_message_place (V.Lawful.meaning code.now) index) }
+    requires { index < (array (V.meaning code.now)).dimension }
+    ensures { result ≡ Ok (array_message_place (V.meaning code.now) index) }
 {
-    let w = width(code);
+    let w = bits(code);
     let row = code.message_place(index / w)?;
     Ok(row * (w + 1) + index % w)
 }
 
 /// The generator's entry for a message bit at a place.
 fn generator_entry<V: Code>(code: &V, index: usize, place: usize) -> Result<u16, Fault>
-    requires { (index < (array (V.Lawful.meaning code.now)).dimension) × (place < (array (V.Lawful.meaning code.now)).places) }
-    ensures { result ≡ Ok (array_generator (V.Lawful.meaning code.now) (V.Lawful.generating code.now) index place) }
+    requires index { index < (array (V.meaning code.now)).dimension }
+    requires place { place < (array (V.meaning code.now)).places }
+    ensures { result ≡ Ok (array_generator (V.meaning code.now) (V.generating code.now) index place) }
 {
-    let w = width(code);
+    let w = bits(code);
     let (row, column) = (place / (w + 1), place % (w + 1));
     let entry = code.generator(index / w, row)?;
     let z = times_bit(code, entry, index % w)?;
@@ -137,18 +137,16 @@ fn generator_entry<V: Code>(code: &V, index: usize, place: usize) -> Result<u16,
     })
 }
 
-impl<V: Lawful> Lawful for Array<V> {
-    ghost meaning = { λ c. array (V.Lawful.meaning c.code) };
-
-    ghost generating = { λ c. array_generator (V.Lawful.meaning c.code) (V.Lawful.generating c.code) };
-
-    ghost lawful = { λ c. array_laws (V.Lawful.meaning c.code) (V.Lawful.lawful c.code) };
-
-    ghost generates = { λ c. array_generates (V.Lawful.meaning c.code) (V.Lawful.lawful c.code) (V.Lawful.generating c.code) (V.Lawful.generates c.code) };
-}
-
 impl<V: Code> Code for Array<V> {
     type F = Bit;
+
+    ghost meaning = { λ c. array (V.meaning c.code) };
+
+    ghost generating = { λ c. array_generator (V.meaning c.code) (V.generating c.code) };
+
+    ghost lawful = { λ c. array_laws (V.meaning c.code) (V.lawful c.code) };
+
+    ghost generates = { λ c. array_generates (V.meaning c.code) (V.lawful c.code) (V.generating c.code) (V.generates c.code) };
 
     fn field(&self) -> &Bit {
         &self.bits
@@ -156,7 +154,7 @@ impl<V: Code> Code for Array<V> {
 
     fn places(&self) -> usize {
         if small_enough(&self.code) {
-            self.code.places() * (width(&self.code) + 1)
+            self.code.places() * (bits(&self.code) + 1)
         } else {
             0
         }
@@ -164,7 +162,7 @@ impl<V: Code> Code for Array<V> {
 
     fn checks(&self) -> usize {
         if small_enough(&self.code) {
-            self.code.places() + self.code.checks() * width(&self.code)
+            self.code.places() + self.code.checks() * bits(&self.code)
         } else {
             0
         }
@@ -172,31 +170,25 @@ impl<V: Code> Code for Array<V> {
 
     fn dimension(&self) -> usize {
         if small_enough(&self.code) {
-            dimension(&self.code) * width(&self.code)
+            symbols(&self.code) * bits(&self.code)
         } else {
             0
         }
     }
 
     fn entry(&self, check: usize, place: usize) -> Result<u16, Fault> {
-        if check >= self.checks() {
-            return Err(Fault::code(CodeCause::Check));
-        }
+        let check = self.check(check)?;
         let place = self.place(place)?;
         check_entry(&self.code, check, place)
     }
 
     fn message_place(&self, index: usize) -> Result<usize, Fault> {
-        if index >= self.dimension() {
-            return Err(Fault::code(CodeCause::MessageIndex));
-        }
+        let index = self.index(index)?;
         bit_place(&self.code, index)
     }
 
     fn generator(&self, index: usize, place: usize) -> Result<u16, Fault> {
-        if index >= self.dimension() {
-            return Err(Fault::code(CodeCause::MessageIndex));
-        }
+        let index = self.index(index)?;
         let place = self.place(place)?;
         generator_entry(&self.code, index, place)
     }

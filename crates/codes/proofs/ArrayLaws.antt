@@ -1,10 +1,11 @@
 -- The array over a lawful code is lawful: its words are the words of the code, each symbol by its bits and their parity.
-use Rattle.std.proofs.Common.{◌≡◌, ℕ, ◌+◌, ◌-◌, ◌*◌, ◌/◌, ◌%◌, ◌^◌, ◌<◌, ◌≤◌, Bool, true, false, cond, eqb, ltb, leb, List, [], sym, refl, ap, ◌∙◌, subst, ap₂, ⊎_elim, zero-le, le_refl, mul_comm, mul-zero, div-add-mod', mul-one, add-one, arith, lit<}
+use Rattle.std.proofs.Common.{◌≡◌, ℕ, ◌+◌, ◌*◌, ◌/◌, ◌%◌, ◌^◌, ◌<◌, ◌≤◌, Bool, true, false, cond, eqb, ltb, List, [], sym, refl, ap, ◌∙◌, subst, ap₂, ⊎_elim, zero-le, le_refl, mul_comm, mul-zero, div-add-mod', mul-one, add-one, arith, lit<}
 use lib.Arith.{digits_lt}
 use lib.Bits.{bit_xor, xor_self, xor_zero_r}
-use Rattle.std.proofs.lemmas.Nat.{div_below, mod_below, div-mul-add, mod-mul-add}
+use Rattle.std.proofs.lemmas.Nat.{div_below, mod_below, div-mul-add, mod-mul-add, same_from_place}
 use Rattle.std.proofs.lemmas.List.{nil_from_length}
 use Rattle.std.proofs.lemmas.Bool.{cases_lt, cond-true, cond-false, lt-ltb, le-ltb, cond_both, and_parts, leb-true}
+use Rattle.std.proofs.lemmas.Bool.Decides.{nat_tests}
 use Rattle.fields.specs.Meaning.{FieldMeaning, FieldLaws, size}
 use Rattle.fields.proofs.BitLaws.{bit_laws}
 use Rattle.codes.specs.Words.{CodeMeaning, CodeLaws, Word, Message, Carries, sum, at}
@@ -20,6 +21,10 @@ sum_next n f = ap (λ (m : ℕ). sum m f) (add-one n)
 -- bits, of a parity and of a choice
 unit_below : (j i : ℕ) → unit j i < 2
 unit_below j i = cond_both (eqb j i) 1 0 (λ y. y < 2) (λ _. lit< tt) (λ _. lit< tt)
+
+-- what holds in the columns of the bits and in the last one holds in every column
+pub each_column : (w : ℕ) (P : ℕ → Type 0) → ((c : ℕ) → c < w → P c) → P w → (c : ℕ) → c < w + 1 → P c
+each_column w P bits last c h = ⊎_elim (λ (l : c < w). bits c l) (λ (l : w ≤ c). let e : w ≡ c = omega arith in subst P e last) (cases_lt c w)
 
 module _ (m : CodeMeaning) (K : CodeLaws m) where
   abbrev f : FieldMeaning
@@ -54,18 +59,13 @@ module _ (m : CodeMeaning) (K : CodeLaws m) where
   entry_row t i c h = then_low n (λ t. unit t i) (bit_entry i c) t h
 
   entry_code : (j b i c : ℕ) → b < w → c < w → cell_entry m (n + (j * w + b)) i c ≡ bit (f.product (m.entry j i) (2 ^ c)) b
-  entry_code j b i c hb hc =
-      then_high n (λ t. unit t i) (bit_entry i c) (j * w + b)
-      ∙ cond-true (ltb c w) _ 0 (lt-ltb c w hc)
-      ∙ ap₂ (λ (s t : ℕ). bit (f.product (m.entry s i) (2 ^ c)) t) (div-mul-add j w b hb) (mod-mul-add j w b hb)
+  entry_code j b i c hb hc = grind (arith, nat_tests, div-mul-add j w b, mod-mul-add j w b)
 
   entry_last : (s i : ℕ) → cell_entry m (n + s) i w ≡ 0
   entry_last s i = then_high n (λ t. unit t i) (bit_entry i w) s ∙ cond-false (ltb w w) _ 0 (le-ltb w w (le_refl w))
 
   entry_below : (t i c : ℕ) → cell_entry m t i c < 2
-  entry_below t i c =
-      cond_both (ltb t n) (unit t i) (bit_entry i c (t - n)) (λ y. y < 2) (λ _. unit_below t i)
-      (λ _. cond_both (ltb c w) (bit (f.product (m.entry ((t - n) / w) i) (2 ^ c)) ((t - n) % w)) 0 (λ y. y < 2) (λ _. bit_below _ _) (λ _. lit< tt))
+  entry_below t i c = grind (arith, unit_below, bit_below)
 
   module _ (u : List ℕ) (b2 : (p : ℕ) → p < n * (w + 1) → at u p < 2) where
     cell_below : (i c : ℕ) → i < n → c < w + 1 → cell u i c < 2
@@ -136,10 +136,7 @@ module _ (m : CodeMeaning) (K : CodeLaws m) where
     carries_down : (x : List ℕ) → Carries A u x → Carries m (symbols_of u) (gathered x)
     carries_down x cx i hi =
         symbol_is (m.message_place i) (K.within i hi)
-        ∙ sum_cong w _ _ (λ c hc.
-        ap (λ (y : ℕ). y * 2 ^ c)
-        (sym (ap₂ (λ (s t : ℕ). at u (m.message_place s * (w + 1) + t)) (div-mul-add i w c hc) (mod-mul-add i w c hc))
-        ∙ cx (i * w + c) (digits_lt hi hc)))
+        ∙ sum_cong w _ _ (λ c hc. cc (div-mul-add i w c hc, mod-mul-add i w c hc, cx (i * w + c) (digits_lt hi hc)))
         ∙ sym (at_build m.dimension (λ i. pack w (λ c. at x (i * w + c))) i hi)
 
     -- the last of a row
@@ -147,8 +144,7 @@ module _ (m : CodeMeaning) (K : CodeLaws m) where
     last_is i hi = sym (xor_same (sum w (cell u i)) (cell u i w) (sym (check_row u U.elements i hi) ∙ U.checked i (omega arith)))
 
     pub cell_is : (i c : ℕ) → i < n → c < w → cell u i c ≡ bit (at (symbols_of u) i) c
-    cell_is i c hi hc =
-        sym (ap (λ (y : ℕ). bit y c) (symbol_is i hi) ∙ bit_pack w (cell u i) (λ c h. cells i c hi (omega arith)) c hc)
+    cell_is i c hi hc = grind (arith, symbol_is, bit_pack, cells)
 
   message_down : (x : List ℕ) → Message A x → Message m (gathered x)
   message_down x M = record {
@@ -170,13 +166,8 @@ module _ (m : CodeMeaning) (K : CodeLaws m) where
       front i c hi hc = cell_is u U i c hi hc ∙ ap (λ (l : List ℕ). bit (at l i) c) same ∙ sym (cell_is v V i c hi hc)
 
       each : (i c : ℕ) → i < n → c < w + 1 → cell u i c ≡ cell v i c
-      each i c hi hc =
-          ⊎_elim
-          (λ (l : c < w). front i c hi l)
-          (λ (l : w ≤ c).
-          let e : w ≡ c = omega arith in
-          subst (λ (c : ℕ). cell u i c ≡ cell v i c) e (last_is u U i hi ∙ sum_cong w _ _ (λ c h. front i c hi h) ∙ sym (last_is v V i hi)))
-          (cases_lt c w)
+      each i c hi =
+          each_column w (λ c. cell u i c ≡ cell v i c) (λ c h. front i c hi h) (last_is u U i hi ∙ sum_cong w _ _ (λ c h. front i c hi h) ∙ sym (last_is v V i hi)) c
 
   -- ---- from a word of the code to a word of the array
 
@@ -247,16 +238,9 @@ module _ (m : CodeMeaning) (K : CodeLaws m) where
   distinct i j hi hj e =
       let ri : i % w < w = mod_below i w some in
       let rj : j % w < w = mod_below j w some in
-      let li : i % w < w + 1 = omega arith in
-      let lj : j % w < w + 1 = omega arith in
-      let p : m.message_place (i / w) ≡ m.message_place (j / w) =
-      sym (div-mul-add (m.message_place (i / w)) (w + 1) (i % w) li) ∙ ap (λ (t : ℕ). t / (w + 1)) e ∙ div-mul-add (m.message_place (j / w)) (w + 1) (j % w) lj in
-      let q : i % w ≡ j % w =
-      sym (mod-mul-add (m.message_place (i / w)) (w + 1) (i % w) li) ∙ ap (λ (t : ℕ). t % (w + 1)) e ∙ mod-mul-add (m.message_place (j / w)) (w + 1) (j % w) lj in
-      sym (div-add-mod' i w)
-      ∙ ap₂ (λ (s t : ℕ). s * w + t)
-      (K.distinct (i / w) (j / w) (div_below i w m.dimension some hi) (div_below j w m.dimension some hj) p) q
-      ∙ div-add-mod' j w
+      let (p, q) = same_from_place (m.message_place (i / w)) (i % w) (m.message_place (j / w)) (j % w) (w + 1) (omega arith) (omega arith) e in
+      let r = K.distinct (i / w) (j / w) (div_below i w m.dimension some hi) (div_below j w m.dimension some hj) p in
+      cc (div-add-mod' i w, div-add-mod' j w)
 
   whole : array_places m ≤ 512 → array_checks m ≤ 96 → CodeLaws A
   whole h c = record {
@@ -287,9 +271,7 @@ module _ (m : CodeMeaning) (K : CodeLaws m) where
   whole_or_none false h = none
 
   pub fits_is : array_fits m ≡ true → (array_places m ≤ 512) × (array_checks m ≤ 96)
-  fits_is e =
-      let q = and_parts (leb (array_places m) 512) (leb (array_checks m) 96) e in
-      (leb-true (array_places m) 512 q.0, leb-true (array_checks m) 96 q.1)
+  fits_is e = grind (arith, and_parts, leb-true)
 
   pub array_laws : CodeLaws (array m)
   array_laws = whole_or_none (array_fits m) fits_is

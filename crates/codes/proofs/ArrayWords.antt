@@ -1,14 +1,15 @@
 -- The words of an array are the rows of the words of its code, and its generator is the bits of the code's.
-use Rattle.std.proofs.Common.{◌≡◌, ℕ, ◌+◌, ◌*◌, ◌/◌, ◌%◌, ◌^◌, ◌<◌, ◌≤◌, Bool, true, false, cond, ltb, List, sym, ap, ◌∙◌, subst, ap₂, ⊎_elim, le_refl, arith}
+use Rattle.std.proofs.Common.{◌≡◌, ℕ, ◌+◌, ◌*◌, ◌/◌, ◌%◌, ◌<◌, Bool, true, false, ltb, List, sym, ap, ◌∙◌, subst, arith}
 use Rattle.std.proofs.lemmas.Nat.{div-mul-add, mod-mul-add}
-use Rattle.std.proofs.lemmas.Bool.{cases_lt, cond-true, cond-false, cond_both, lt-ltb, le-ltb}
+use Rattle.std.proofs.lemmas.Bool.{cond_both}
+use Rattle.std.proofs.lemmas.Bool.Decides.{nat_tests}
 use Rattle.fields.specs.Meaning.{FieldMeaning, size}
 use Rattle.codes.specs.Words.{CodeMeaning, CodeLaws, Generates, Word, sum, at}
 use Rattle.codes.specs.Arrays.{bit, array_if, array_fits, array, array_message_place, generated_bit, array_generator, rows_of}
 use Rattle.codes.specs.Theorems.{WordsAreRows}
 use Rattle.codes.proofs.Sums.{sum_cong, sum_below, sum_grid, sum_swap, length_build, same_at}
 use Rattle.codes.proofs.Digits.{bit_below, bit_sum, digit_sum, pack, pack_below, in_grid, product_pack}
-use Rattle.codes.proofs.ArrayLaws.{cell, cells, symbols_of, symbol_is, word_down, last_is, cell_is, word_up, cell_bit, cell_last, place_below}
+use Rattle.codes.proofs.ArrayLaws.{each_column, cell, cells, symbols_of, symbol_is, word_down, last_is, cell_is, word_up, cell_bit, cell_last, place_below}
 
 module _ (m : CodeMeaning) (K : CodeLaws m) where
   abbrev f : FieldMeaning
@@ -20,10 +21,6 @@ module _ (m : CodeMeaning) (K : CodeLaws m) where
   abbrev n : ℕ
   n = m.places
 
-  -- what holds in the columns of the bits and in the last one holds in every column
-  each_column : (P : ℕ → Type 0) → ((c : ℕ) → c < w → P c) → P w → (c : ℕ) → c < w + 1 → P c
-  each_column P bits last c h = ⊎_elim (λ (l : c < w). bits c l) (λ (l : w ≤ c). let e : w ≡ c = omega arith in subst P e last) (cases_lt c w)
-
   -- ---- words
 
   rows_back : (u : List ℕ) → Word (array_if true m) u → (v : List ℕ) × Word m v × (u ≡ rows_of m v)
@@ -32,7 +29,7 @@ module _ (m : CodeMeaning) (K : CodeLaws m) where
     V,
     same_at (n * (w + 1)) u (rows_of m (symbols_of m K u)) U.long (length_build (n * (w + 1)) _)
         (in_grid (λ p. at u p ≡ at (rows_of m (symbols_of m K u)) p) n (w + 1) (omega arith)
-        (λ i c hi. each_column (λ c. cell m K u i c ≡ cell m K (rows_of m (symbols_of m K u)) i c) (front i hi)
+        (λ i c hi. each_column w (λ c. cell m K u i c ≡ cell m K (rows_of m (symbols_of m K u)) i c) (front i hi)
         (last_is m K u U i hi ∙ sum_cong w _ _ (λ c hc. cell_is m K u U i c hi hc) ∙ sym (cell_last m K (symbols_of m K u) V i hi)) c)),
   )
     where
@@ -58,16 +55,10 @@ module _ (m : CodeMeaning) (K : CodeLaws m) where
     k = m.dimension * w
 
     at_bit : (t r c : ℕ) → c < w → H t (r * (w + 1) + c) ≡ generated_bit m G t r c
-    at_bit t r c h =
-        let l : c < w + 1 = omega arith in
-        ap₂ (λ (r c : ℕ). cond (ltb c w) (generated_bit m G t r c) (sum w (generated_bit m G t r))) (div-mul-add r (w + 1) c l) (mod-mul-add r (w + 1) c l)
-        ∙ cond-true (ltb c w) _ _ (lt-ltb c w h)
+    at_bit t r c h = grind (arith, nat_tests, div-mul-add r (w + 1) c, mod-mul-add r (w + 1) c)
 
     at_last : (t r : ℕ) → H t (r * (w + 1) + w) ≡ sum w (generated_bit m G t r)
-    at_last t r =
-        let l : w < w + 1 = omega arith in
-        ap₂ (λ (r c : ℕ). cond (ltb c w) (generated_bit m G t r c) (sum w (generated_bit m G t r))) (div-mul-add r (w + 1) w l) (mod-mul-add r (w + 1) w l)
-        ∙ cond-false (ltb w w) _ _ (le-ltb w w (le_refl w))
+    at_last t r = grind (arith, nat_tests, div-mul-add r (w + 1) w, mod-mul-add r (w + 1) w)
 
     below : (t p : ℕ) → H t p < 2
     below t p =
@@ -90,8 +81,7 @@ module _ (m : CodeMeaning) (K : CodeLaws m) where
           (ap (λ (y : ℕ). f.product y (G i r)) (symbol_is m K u U (m.message_place i) hp)
           ∙ K.field_laws.commutes (pack w (cell m K u (m.message_place i))) (G i r) (pack_below w (cell m K u (m.message_place i)) hb) hg)
           ∙ product_pack f K.field_laws (G i r) (cell m K u (m.message_place i)) c hg hb
-          ∙ sum_cong w _ _ (λ b l.
-          sym (ap₂ (λ (s t : ℕ). at u (m.message_place s * (w + 1) + t) * bit (f.product (G s r) (2 ^ t)) c) (div-mul-add i w b l) (mod-mul-add i w b l)))
+          ∙ sum_cong w _ _ (λ b l. cc (div-mul-add i w b l, mod-mul-add i w b l))
 
       cell_generated : (r : ℕ) → r < n → (c : ℕ) → c < w → cell m K u r c ≡ sum k (λ t. x t * generated_bit m G t r c)
       cell_generated r hr c hc =
@@ -111,7 +101,7 @@ module _ (m : CodeMeaning) (K : CodeLaws m) where
       every_word =
           in_grid (λ p. at u p ≡ sum k (λ t. x t * H t p)) n (w + 1) (omega arith)
           (λ r c hr.
-          each_column (λ c. cell m K u r c ≡ sum k (λ t. x t * H t (r * (w + 1) + c)))
+          each_column w (λ c. cell m K u r c ≡ sum k (λ t. x t * H t (r * (w + 1) + c)))
           (λ c hc. cell_generated r hr c hc ∙ sum_cong k _ _ (λ t _. ap (λ (y : ℕ). x t * y) (sym (at_bit t r c hc))))
           (last_generated r hr ∙ sum_cong k _ _ (λ t _. ap (λ (y : ℕ). x t * y) (sym (at_last t r)))) c)
 

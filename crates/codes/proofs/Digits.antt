@@ -1,12 +1,12 @@
 -- Numbers by their bits.
-use Rattle.std.proofs.Common.{◌≡◌, ℕ, zero, suc, ◌+◌, ◌-◌, ◌*◌, ◌/◌, ◌%◌, ◌^◌, ◌<◌, sym, ap, ◌∙◌, subst, ⊎_elim, mod-lt, mod-eq_of_lt, mul_assoc, one-mul, mul-zero, div-add-mod', zero-mul, one-add, arith, lit<, pow_pos, pow-add}
+use Rattle.std.proofs.Common.{◌≡◌, ℕ, zero, suc, ◌+◌, ◌-◌, ◌*◌, ◌/◌, ◌%◌, ◌^◌, ◌<◌, ◌≤◌, sym, ap, ◌∙◌, subst, ⊎_elim, mod-lt, mod-eq_of_lt, mul_assoc, one-mul, mul-zero, div-add-mod', zero-mul, one-add, arith, lit<, pow_pos, pow-add}
 use native.Mathlib.Nat.{zero-div, div-eq_of_lt, mod-one}
 use lib.Bits.{bit_xor, xor_comm, xor_shr, xor_mod, xor_shifted, shifted_even}
 use lib.Pow.{pow-lt, shl-shr, mod-pow-add}
-use Rattle.std.proofs.lemmas.Bool.{cases_order}
+use Rattle.std.proofs.lemmas.Bool.{cases_lt}
 use Rattle.std.proofs.lemmas.Nat.{div_below, mod_below}
 use Rattle.fields.specs.Meaning.{FieldMeaning, FieldLaws, size}
-use Rattle.fields.proofs.Additive.{times_digit_additive}
+use Rattle.fields.proofs.Additive.{at_digit, times_digit_additive}
 use Rattle.fields.proofs.Identities.{times_zero}
 use Rattle.codes.specs.Words.{sum}
 use Rattle.codes.specs.Arrays.{bit}
@@ -26,9 +26,9 @@ bit_sum zero f b = bit_zero b
 bit_sum (suc n) f b = bit_of_xor (sum n f) (f n) b ∙ ap (λ (t : ℕ). bit_xor t (bit (f n) b)) (bit_sum n f b)
 
 pub bit_scaled : (d x b : ℕ) → d < 2 → bit (d * x) b ≡ d * bit x b
-bit_scaled zero x b h = ap (λ (t : ℕ). bit t b) (zero-mul x) ∙ bit_zero b ∙ sym (zero-mul (bit x b))
-bit_scaled (suc zero) x b h = ap (λ (t : ℕ). bit t b) (one-mul x) ∙ sym (one-mul (bit x b))
-bit_scaled (suc (suc d)) x b h = absurd (omega arith)
+bit_scaled d x b =
+    at_digit (λ d. bit (d * x) b ≡ d * bit x b)
+    (ap (λ (t : ℕ). bit t b) (zero-mul x) ∙ bit_zero b ∙ sym (zero-mul (bit x b))) (ap (λ (t : ℕ). bit t b) (one-mul x) ∙ sym (one-mul (bit x b))) d
 
 bit_small : (x b : ℕ) → x < 2 ^ b → bit x b ≡ 0
 bit_small x b h = ap (λ (t : ℕ). t % 2) (div-eq_of_lt h)
@@ -38,8 +38,7 @@ bit_own d b h = ap (λ (t : ℕ). t % 2) (shl-shr d b) ∙ mod-eq_of_lt h
 
 bit_under : (d c e : ℕ) → bit (d * 2 ^ (suc e + c)) c ≡ 0
 bit_under d c e =
-    ap (λ (t : ℕ). t / 2 ^ c % 2) (ap (λ (t : ℕ). d * t) (pow-add 2 (suc e) c) ∙ sym (mul_assoc d (2 ^ suc e) (2 ^ c)))
-    ∙ ap (λ (t : ℕ). t % 2) (shl-shr (d * 2 ^ suc e) c) ∙ shifted_even d e
+    cc (pow-add 2 (suc e) c, mul_assoc d (2 ^ suc e) (2 ^ c), shl-shr (d * 2 ^ suc e) c, shifted_even d e)
 
 bit_lower : (d b c : ℕ) → c < b → bit (d * 2 ^ b) c ≡ 0
 bit_lower d b c h =
@@ -47,9 +46,7 @@ bit_lower d b c h =
     subst (λ (t : ℕ). bit (d * 2 ^ t) c ≡ 0) e (bit_under d c (b - 1 - c))
 
 digit_lt : (k d x : ℕ) → d < 2 → x < 2 ^ k → d * x < 2 ^ k
-digit_lt k zero x hd hx = subst (λ (n : ℕ). n < 2 ^ k) (sym (zero-mul x)) (pow_pos k)
-digit_lt k (suc zero) x hd hx = subst (λ (n : ℕ). n < 2 ^ k) (sym (one-mul x)) hx
-digit_lt k (suc (suc d)) x hd hx = absurd (omega arith)
+digit_lt k d x hd hx = at_digit (λ d. d * x < 2 ^ k) (omega (arith, pow_pos k)) (omega arith) d hd
 
 pub digit_sum : (d n : ℕ) (g : ℕ → ℕ) → d < 2 → d * sum n g ≡ sum n (λ i. d * g i)
 digit_sum d zero g h = mul-zero d
@@ -67,21 +64,16 @@ bit_pack w g h c l =
     bit_sum w (λ i. g i * 2 ^ i) c
     ∙ sum_one w (λ i. bit (g i * 2 ^ i) c) c l
     (λ i m ne.
-    ⊎_elim (λ e. absurd (ne e))
-    (⊎_elim
+    ⊎_elim
     (λ (o : i < c). bit_small (g i * 2 ^ i) c (digit_lt c (g i) (2 ^ i) (h i m) (pow-lt o)))
-    (λ (o : c < i). bit_lower (g i) i c o))
-    (cases_order i c))
+    (λ (o : c ≤ i). bit_lower (g i) i c (omega arith))
+    (cases_lt i c))
     ∙ bit_own (g c) c (h c l)
 
 pack_mod : (w x : ℕ) → pack w (bit x) ≡ x % 2 ^ w
 pack_mod zero x = sym (mod-one x)
 pack_mod (suc w) x =
-    ap (λ (t : ℕ). bit_xor t (bit x w * 2 ^ w)) (pack_mod w x)
-    ∙ xor_comm (x % 2 ^ w) (bit x w * 2 ^ w)
-    ∙ xor_shifted (bit x w) w (x % 2 ^ w) (mod-lt x (pow_pos w))
-    ∙ sym (mod-pow-add x 1 w)
-    ∙ ap (λ (t : ℕ). x % 2 ^ t) (one-add w)
+    cc (pack_mod w x, xor_comm (x % 2 ^ w) (bit x w * 2 ^ w), xor_shifted (bit x w) w (x % 2 ^ w) (mod-lt x (pow_pos w)), mod-pow-add x 1 w, one-add w)
 
 pub pack_bit : (w x : ℕ) → x < 2 ^ w → pack w (bit x) ≡ x
 pack_bit w x h = pack_mod w x ∙ mod-eq_of_lt h
@@ -104,9 +96,9 @@ module _ (f : FieldMeaning) (L : FieldLaws f) where
       ∙ ap (λ (t : ℕ). bit_xor t (f.product x (g n))) (product_sum x n g hx (λ i l. h i (omega arith)))
 
   product_digit : (x d y : ℕ) → x < size f → d < 2 → f.product x (d * y) ≡ d * f.product x y
-  product_digit x zero y hx h = ap (f.product x) (zero-mul y) ∙ times_zero f L x hx ∙ sym (zero-mul (f.product x y))
-  product_digit x (suc zero) y hx h = ap (f.product x) (one-mul y) ∙ sym (one-mul (f.product x y))
-  product_digit x (suc (suc d)) y hx h = absurd (omega arith)
+  product_digit x d y hx =
+      at_digit (λ d. f.product x (d * y) ≡ d * f.product x y)
+      (ap (f.product x) (zero-mul y) ∙ times_zero f L x hx ∙ sym (zero-mul (f.product x y))) (ap (f.product x) (one-mul y) ∙ sym (one-mul (f.product x y))) d
 
   -- bit b of x times the number whose bits are g
   pub product_pack : (x : ℕ) (g : ℕ → ℕ) (b : ℕ) → x < size f → ((c : ℕ) → c < f.width → g c < 2)

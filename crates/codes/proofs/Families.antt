@@ -1,8 +1,8 @@
 -- Single parity and the four times extended code are lawful.
-use Rattle.std.proofs.Common.{◌≡◌, ℕ, zero, suc, ◌+◌, ◌-◌, ◌*◌, ◌%◌, ◌^◌, ◌<◌, ◌≤◌, cond, ltb, sym, refl, ap, ◌∙◌, subst, arith, lit≤, pow_mono}
-use Rattle.std.proofs.lemmas.Nat.{one_shl}
+use Rattle.std.proofs.Common.{◌≡◌, ◌≢◌, ℕ, zero, suc, ◌+◌, ◌-◌, ◌<◌, ◌≤◌, cond, ltb, sym, refl, ap, ◌∙◌, subst, arith, lit≤}
 use Rattle.fields.specs.Meaning.{FieldMeaning, FieldLaws, size}
 use Rattle.fields.proofs.Identities.{one_below}
+use Rattle.fields.proofs.Sizes.{size_some, size_few}
 use Rattle.codes.specs.Words.{CodeLaws, Generates}
 use Rattle.codes.specs.Systematic.{parity, parity_generator, power_of, unit, point, four_entry, four_times, four_generator}
 use Rattle.codes.proofs.Sums.{then_at, then_low, then_high}
@@ -22,23 +22,14 @@ module _ (f : FieldMeaning) (L : FieldLaws f) where
   pub parity_generates : (n : ℕ) → 2 ≤ n → Generates (parity f n) (parity_generator n)
   parity_generates n h = systematic_generates f L (n - 1) 1 (λ j p. 1) (parity_tailed (n - 1)) n (omega arith)
 
-  pub size_some : 2 ≤ size f
-  size_some = one_below f L
-
-  pub size_few : size f ≤ 256
-  size_few = pow_mono {i = f.width} {j = 8} L.few_bits
-
   pub point_below : (p : ℕ) → p < size f - 1 → point f p < size f
-  point_below p h = let s = size_some in L.roll_below (size f - 2 - p) (omega arith)
+  point_below p h = let s = size_some f L in L.roll_below (size f - 2 - p) (omega arith)
 
-  pub point_nonzero : (p : ℕ) → p < size f - 1 → point f p ≡ 0 → ⊥
-  point_nonzero p h = let s = size_some in L.roll_nonzero (size f - 2 - p) (omega arith)
+  pub point_nonzero : (p : ℕ) → p < size f - 1 → point f p ≢ 0
+  point_nonzero p h = let s = size_some f L in L.roll_nonzero (size f - 2 - p) (omega arith)
 
   pub point_apart : (p r : ℕ) → p < size f - 1 → r < size f - 1 → point f p ≡ point f r → p ≡ r
-  point_apart p r hp hr e =
-      let s = size_some in
-      let q : size f - 2 - p ≡ size f - 2 - r = L.roll_once (size f - 2 - p) (size f - 2 - r) (omega arith) (omega arith) e in
-      omega arith
+  point_apart p r hp hr e = grind (arith, size_some, L.roll_once)
 
   pub power_below : (j x : ℕ) → x < size f → power_of f j x < size f
   power_below zero x h = one_below f L
@@ -63,11 +54,11 @@ module _ (f : FieldMeaning) (L : FieldLaws f) where
   }
 
   pub four_long : size f + 3 ≡ size f - 1 + 4
-  four_long = let s = size_some in omega arith
+  four_long = let s = size_some f L in omega arith
 
   pub four_times_laws : CodeLaws (four_times f)
   four_times_laws =
-      let s = size_few in
+      let s = size_few f L in
       systematic_laws f L (size f - 1) 4 (four_entry f) four_tailed (size f + 3) four_long (omega arith) (lit≤ tt)
 
   pub four_times_generates : Generates (four_times f) (four_generator f)
@@ -75,10 +66,3 @@ module _ (f : FieldMeaning) (L : FieldLaws f) where
       same_generates (four_times f) (λ i. then_at (size f - 1) (unit i) (λ j. four_entry f j i)) (four_generator f)
       (λ i p hi. ap (λ (y : ℕ). cond (ltb p (size f - 1)) (unit i p) y) (entry_point (p - (size f - 1)) i hi))
       (systematic_generates f L (size f - 1) 4 (four_entry f) four_tailed (size f + 3) four_long)
-
-  -- the order as the code works it out
-  pub order_is : (w : ℕ) → w ≡ f.width → (1 * 2 ^ w) % 2 ^ 64 ≡ size f
-  order_is w e =
-      let l = L.few_bits in
-      let h : w < 64 = omega arith in
-      one_shl w 64 h ∙ ap (λ (t : ℕ). 2 ^ t) e

@@ -1,15 +1,12 @@
 -- Sums, and lists by what stands at each place.
-use Rattle.std.proofs.Common.{◌≡◌, ℕ, zero, suc, ◌+◌, ◌-◌, ◌*◌, ◌^◌, ◌<◌, cond, ltb, List, length, sym, refl, ap, ◌∙◌, subst, ap₂, ⊎_elim, le_of_suc-le-suc, le-add_right, add-zero, add-suc, suc-mul, zero-mul, arith, ext_get_or, pow_pos}
-use native.Mathlib.Nat.{add-sub_cancel_left}
-use lib.Bits.{bit_xor, xor_assoc, xor_self, xor_zero_r, xor_lt}
-use Rattle.std.proofs.lemmas.Bool.{cases_eq, cond-true, cond-false, lt-ltb, le-ltb}
+use Rattle.std.proofs.Common.{◌≡◌, ◌≢◌, ℕ, zero, suc, ◌+◌, ◌-◌, ◌*◌, ◌^◌, ◌<◌, cond, ltb, List, length, sym, refl, ap, ◌∙◌, subst, ap₂, ⊎_elim, le_of_suc-le-suc, add-zero, add-suc, suc-mul, zero-mul, arith, ext_get_or, pow_pos}
+use lib.Bits.{bit_xor, xor_assoc, xor_zero_r, xor_lt}
+use Rattle.std.proofs.lemmas.Bool.{cases_eq}
+use Rattle.std.proofs.lemmas.Bool.Decides.{nat_tests}
 use Rattle.fields.proofs.Additive.{xor_exchange}
+pub use Rattle.fields.proofs.Additive.{xor_same}
 use Rattle.codes.specs.Words.{sum, at}
 use Rattle.codes.specs.Arrays.{build}
-
--- a sum of two that is 0 has them equal
-pub xor_same : (a b : ℕ) → bit_xor a b ≡ 0 → a ≡ b
-xor_same a b e = sym (xor_zero_r a) ∙ ap (bit_xor a) (sym (xor_self b)) ∙ sym (xor_assoc a b b) ∙ ap (λ (x : ℕ). bit_xor x b) e
 
 pub sum_cong : (n : ℕ) (f g : ℕ → ℕ) → ((i : ℕ) → i < n → f i ≡ g i) → sum n f ≡ sum n g
 sum_cong zero f g h = refl
@@ -28,7 +25,7 @@ sum_below k zero f h = pow_pos k
 sum_below k (suc n) f h = xor_lt k (sum n f) (f n) (sum_below k n f (λ i l. h i (omega arith))) (h n (omega arith))
 
 -- a sum with one term that is not 0
-pub sum_one : (n : ℕ) (f : ℕ → ℕ) (k : ℕ) → k < n → ((i : ℕ) → i < n → (i ≡ k → ⊥) → f i ≡ 0) → sum n f ≡ f k
+pub sum_one : (n : ℕ) (f : ℕ → ℕ) (k : ℕ) → k < n → ((i : ℕ) → i < n → (i ≢ k) → f i ≡ 0) → sum n f ≡ f k
 sum_one zero f k l h = absurd (omega arith)
 sum_one (suc n) f k l h =
     ⊎_elim
@@ -69,14 +66,13 @@ abbrev pub then_at : ℕ → (ℕ → ℕ) → (ℕ → ℕ) → ℕ → ℕ
 then_at k g h p = cond (ltb p k) (g p) (h (p - k))
 
 pub then_low : (k : ℕ) (g h : ℕ → ℕ) (p : ℕ) → p < k → then_at k g h p ≡ g p
-then_low k g h p l = cond-true (ltb p k) (g p) (h (p - k)) (lt-ltb p k l)
+then_low k g h p l = grind (arith, nat_tests)
 
 pub then_high : (k : ℕ) (g h : ℕ → ℕ) (i : ℕ) → then_at k g h (k + i) ≡ h i
-then_high k g h i =
-    cond-false (ltb (k + i) k) (g (k + i)) (h (k + i - k)) (le-ltb (k + i) k (le-add_right k i)) ∙ ap h (add-sub_cancel_left k i)
+then_high k g h i = grind (arith, nat_tests)
 
 -- a sum with two terms that are not 0, and with three
-pub sum_two : (n : ℕ) (f : ℕ → ℕ) (a b : ℕ) → a < b → b < n → ((i : ℕ) → i < n → (i ≡ a → ⊥) → (i ≡ b → ⊥) → f i ≡ 0)
+pub sum_two : (n : ℕ) (f : ℕ → ℕ) (a b : ℕ) → a < b → b < n → ((i : ℕ) → i < n → (i ≢ a) → (i ≢ b) → f i ≡ 0)
     → sum n f ≡ bit_xor (f a) (f b)
 sum_two zero f a b h l z = absurd (omega arith)
 sum_two (suc n) f a b h l z =
@@ -88,7 +84,7 @@ sum_two (suc n) f a b h l z =
     (cases_eq b n)
 
 pub sum_three : (n : ℕ) (f : ℕ → ℕ) (a b c : ℕ) → a < b → b < c → c < n
-    → ((i : ℕ) → i < n → (i ≡ a → ⊥) → (i ≡ b → ⊥) → (i ≡ c → ⊥) → f i ≡ 0)
+    → ((i : ℕ) → i < n → (i ≢ a) → (i ≢ b) → (i ≢ c) → f i ≡ 0)
     → sum n f ≡ bit_xor (bit_xor (f a) (f b)) (f c)
 sum_three zero f a b c h k l z = absurd (omega arith)
 sum_three (suc n) f a b c h k l z =

@@ -1,7 +1,8 @@
 -- A code whose message is its first k places, and whose last r columns are the unit columns, is lawful.
-use Rattle.std.proofs.Common.{◌≡◌, ℕ, ◌+◌, ◌-◌, ◌<◌, ◌≤◌, eqb, List, sym, refl, ap, ◌∙◌, subst, ap₂, ⊎_elim, add-sub_of_le, arith}
+use Rattle.std.proofs.Common.{◌≡◌, ◌≢◌, ℕ, ◌+◌, ◌-◌, ◌<◌, ◌≤◌, eqb, List, sym, refl, ap, ◌∙◌, subst, ap₂, ⊎_elim, add-sub_of_le, arith}
 use lib.Bits.{bit_xor, xor_self}
 use Rattle.std.proofs.lemmas.Bool.{cases_lt, cond-true, cond-false, cond_both, eq-eqb, ne_eqb}
+use Rattle.std.proofs.lemmas.Bool.Decides.{nat_tests}
 use Rattle.fields.specs.Meaning.{FieldMeaning, FieldLaws, size}
 use Rattle.fields.proofs.Identities.{zero_times, times_zero, times_one, one_below, zero_below}
 use Rattle.codes.specs.Words.{CodeMeaning, CodeLaws, Generates, Word, Message, Carries, sum, at}
@@ -19,7 +20,7 @@ tail_of f k e x j = sum k (λ p. f.product (e j p) (at x p))
 pub record Tailed (f : FieldMeaning) (k r : ℕ) (e : ℕ → ℕ → ℕ) : Type 0 where
   pub bounds : (j p : ℕ) → j < r → p < k + r → e j p < size f
   pub own : (j : ℕ) → j < r → e j (k + j) ≡ 1
-  pub other : (j i : ℕ) → j < r → i < r → (i ≡ j → ⊥) → e j (k + i) ≡ 0
+  pub other : (j i : ℕ) → j < r → i < r → (i ≢ j) → e j (k + i) ≡ 0
 
 -- every place is in the message, or a number behind it
 pub placed : (P : ℕ → Type 0) (k r : ℕ) → ((p : ℕ) → p < k → P p) → ((i : ℕ) → i < r → P (k + i)) → (p : ℕ) → p < k + r → P p
@@ -39,7 +40,7 @@ same_generates m G H same g = record {
 pub unit_own : (j : ℕ) → unit j j ≡ 1
 unit_own j = cond-true (eqb j j) 1 0 (eq-eqb j j refl)
 
-pub unit_other : (j i : ℕ) → (i ≡ j → ⊥) → unit j i ≡ 0
+pub unit_other : (j i : ℕ) → (i ≢ j) → unit j i ≡ 0
 unit_other j i ne = cond-false (eqb j i) 1 0 (ne_eqb j i (λ q. ne (sym q)))
 
 pub unit_below : (f : FieldMeaning) → FieldLaws f → (j i : ℕ) → unit j i < size f
@@ -50,19 +51,15 @@ module _ (f : FieldMeaning) (L : FieldLaws f) (k r : ℕ) (e : ℕ → ℕ → �
   pub check_is : (w : List ℕ) → ((p : ℕ) → p < k + r → at w p < size f) → (j : ℕ) → j < r
       → sum (k + r) (λ p. f.product (e j p) (at w p)) ≡ bit_xor (tail_of f k e w j) (at w (k + j))
   check_is w b j h =
-      sum_split k r (λ p. f.product (e j p) (at w p))
-      ∙ ap (bit_xor (tail_of f k e w j))
-      (sum_one r (λ i. f.product (e j (k + i)) (at w (k + i))) j h
-      (λ i l ne. ap (λ (y : ℕ). f.product y (at w (k + i))) (t.other j i h l ne) ∙ zero_times f L (at w (k + i)) (b (k + i) (omega arith)))
-      ∙ ap (λ (y : ℕ). f.product y (at w (k + j))) (t.own j h) ∙ L.neutral (at w (k + j)) (b (k + j) (omega arith)))
+      let only = sum_one r (λ i. f.product (e j (k + i)) (at w (k + i))) j h (λ i l ne. cc (t.other j i h l ne, zero_times f L (at w (k + i)) (b (k + i) (omega arith)))) in
+      cc (sum_split k r (λ p. f.product (e j p) (at w p)), only, t.own j h, L.neutral (at w (k + j)) (b (k + j) (omega arith)))
 
   -- what stands behind the message
   pub tail_is : (w : List ℕ) → Word (systematic f (k + r) k r e) w → (j : ℕ) → j < r → at w (k + j) ≡ tail_of f k e w j
   tail_is w W j h = sym (xor_same (tail_of f k e w j) (at w (k + j)) (sym (check_is w W.elements j h) ∙ W.checked j h))
 
   tail_below : (x : List ℕ) → ((p : ℕ) → p < k → at x p < size f) → (j : ℕ) → j < r → tail_of f k e x j < size f
-  tail_below x b j h =
-      sum_below f.width k (λ p. f.product (e j p) (at x p)) (λ p l. L.closed (e j p) (at x p) (t.bounds j p h (omega arith)) (b p l))
+  tail_below x b j h = grind (arith, sum_below, L.closed, t.bounds)
 
   abbrev filled : List ℕ → ℕ → ℕ
   filled x = then_at k (at x) (tail_of f k e x)
@@ -119,8 +116,7 @@ module _ (f : FieldMeaning) (L : FieldLaws f) (k r : ℕ) (e : ℕ → ℕ → �
   }
 
   pub systematic_laws : (n : ℕ) → n ≡ k + r → n ≤ 512 → r ≤ 96 → CodeLaws (systematic f n k r e)
-  systematic_laws n q h c =
-      subst (λ (n : ℕ). CodeLaws (systematic f n k r e)) (sym q) (laws (subst (λ (n : ℕ). n ≤ 512) q h) c)
+  systematic_laws n q h c = grind (arith, laws)
 
   -- the identity, and the tails transposed
   pub generator : ℕ → ℕ → ℕ
@@ -128,10 +124,7 @@ module _ (f : FieldMeaning) (L : FieldLaws f) (k r : ℕ) (e : ℕ → ℕ → �
 
   generator_elements : (i p : ℕ) → i < k → p < k + r → generator i p < size f
   unfolding generator
-  generator_elements i p hi =
-      placed (λ p. generator i p < size f) k r
-      (λ p l. subst (λ (y : ℕ). y < size f) (sym (then_low k (unit i) (λ j. e j i) p l)) (unit_below f L i p))
-      (λ j l. subst (λ (y : ℕ). y < size f) (sym (then_high k (unit i) (λ j. e j i) j)) (t.bounds j i l (omega arith))) p
+  generator_elements i p hi = grind (arith, nat_tests, unit_below, t.bounds)
 
   times_generator : (w : List ℕ) → Word (systematic f (k + r) k r e) w → (p : ℕ) → p < k + r → at w p ≡ sum k (λ i. f.product (at w i) (generator i p))
   unfolding generator

@@ -1,10 +1,11 @@
 -- A word of the four times extended code that is zero outside three places is zero.
-use Rattle.std.proofs.Common.{◌≡◌, ℕ, zero, suc, ◌+◌, ◌-◌, ◌<◌, ◌≤◌, List, [], ◌∷◌, sym, refl, ap, ◌∙◌, subst, ap₂, ⊎_elim, arith, lit<}
+use Rattle.std.proofs.Common.{◌≡◌, ◌≢◌, ℕ, zero, suc, ◌+◌, ◌-◌, ◌<◌, ◌≤◌, List, [], ◌∷◌, sym, refl, ap, ◌∙◌, subst, ⊎_elim, arith, lit<}
 use lib.Bits.{bit_xor, xor_zero_r, xor_self}
 use Rattle.std.proofs.lemmas.Bool.{cases_lt, cases_eq, cases_order}
 use Rattle.fields.specs.Meaning.{FieldMeaning, FieldLaws, size}
 use Rattle.fields.proofs.Identities.{Expr, var, nought, one, eval, solve, Bounded, times_zero, one_below, xor_below}
 use Rattle.fields.proofs.Identities as s
+use Rattle.fields.proofs.PairLaws.{quotient}
 use Rattle.codes.specs.Words.{Word, sum, at}
 use Rattle.codes.specs.Systematic.{power_of, point, four_entry, four_times}
 use Rattle.codes.specs.Theorems.{plus, ButThree, ThreeIndependent, ThreeTellApart}
@@ -40,21 +41,13 @@ abbrev ◌⊗◌ : Expr → Expr → Expr
 a ⊗ b = s.prod a b
 
 module _ (f : FieldMeaning) (L : FieldLaws f) where
-  -- a product that is 0 has a factor that is 0
-  pub quotient : (x y : ℕ) → x < size f → y < size f → (x ≡ 0 → ⊥) → f.product x y ≡ 0 → y ≡ 0
-  quotient x y hx hy ne e =
-      let (i, hi, u) = L.inverts x hx ne in
-      sym (L.neutral y hy) ∙ ap (λ (t : ℕ). f.product t y) (sym u)
-      ∙ solve f L (x ∷ y ∷ i ∷ []) (hx, (hy, (hi, tt))) ((X ⊗ Z) ⊗ Y) (Z ⊗ (X ⊗ Y)) refl
-      ∙ ap (f.product i) e ∙ times_zero f L i hi
+  product_nonzero : (x y : ℕ) → x < size f → y < size f → (x ≢ 0) → (y ≢ 0) → f.product x y ≢ 0
+  product_nonzero x y hx hy nx ny e = ny (quotient f L x y hx hy nx e)
 
-  product_nonzero : (x y : ℕ) → x < size f → y < size f → (x ≡ 0 → ⊥) → (y ≡ 0 → ⊥) → f.product x y ≡ 0 → ⊥
-  product_nonzero x y hx hy nx ny e = ny (quotient x y hx hy nx e)
-
-  sum_nonzero : (x y : ℕ) → (x ≡ y → ⊥) → bit_xor x y ≡ 0 → ⊥
+  sum_nonzero : (x y : ℕ) → (x ≢ y) → bit_xor x y ≢ 0
   sum_nonzero x y ne e = ne (xor_same x y e)
 
-  power_nonzero : (j x : ℕ) → x < size f → (x ≡ 0 → ⊥) → power_of f j x ≡ 0 → ⊥
+  power_nonzero : (j x : ℕ) → x < size f → (x ≢ 0) → power_of f j x ≢ 0
   power_nonzero zero x h ne e = omega (arith, e)
   power_nonzero (suc zero) x h ne e = ne e
   power_nonzero (suc (suc zero)) x h ne e = product_nonzero x x h h ne ne e
@@ -64,15 +57,15 @@ module _ (f : FieldMeaning) (L : FieldLaws f) where
   abbrev RowOne : ℕ → ℕ → ℕ → Type 0
   RowOne j x α = f.product (power_of f j x) α ≡ 0
 
-  one_point : (j x α : ℕ) → x < size f → α < size f → (x ≡ 0 → ⊥) → RowOne j x α → α ≡ 0
-  one_point j x α hx ha ne = quotient (power_of f j x) α (power_below f L j x hx) ha (power_nonzero j x hx ne)
+  one_point : (j x α : ℕ) → x < size f → α < size f → (x ≢ 0) → RowOne j x α → α ≡ 0
+  one_point j x α hx ha ne = quotient f L (power_of f j x) α (power_below f L j x hx) ha (power_nonzero j x hx ne)
 
   -- two points
   abbrev RowTwo : ℕ → ℕ → ℕ → ℕ → ℕ → Type 0
   RowTwo j x y α β = bit_xor (f.product (power_of f j x) α) (f.product (power_of f j y) β) ≡ 0
 
   module _ (x y α β : ℕ) (hx : x < size f) (hy : y < size f) (ha : α < size f) (hb : β < size f)
-      (nx : x ≡ 0 → ⊥) (ny : y ≡ 0 → ⊥) (ne : x ≡ y → ⊥) where
+      (nx : x ≢ 0) (ny : y ≢ 0) (ne : x ≢ y) where
     none : (t : ℕ) → t < size f → bit_xor (f.product t 0) 0 ≡ 0
     none t h = xor_zero_r (f.product t 0) ∙ times_zero f L t h
 
@@ -80,12 +73,10 @@ module _ (f : FieldMeaning) (L : FieldLaws f) where
     two_low r0 r1 =
         let bs : Bounded f (x ∷ y ∷ 0 ∷ α ∷ β ∷ []) = (hx, (hy, (s.zero_below f L, (ha, (hb, tt))))) in
         let hxy : bit_xor x y < size f = xor_below f L x y hx hy in (
-          quotient (bit_xor x y) α hxy ha (sum_nonzero x y ne)
-              (solve f L (x ∷ y ∷ 0 ∷ α ∷ β ∷ []) bs ((X ⊕ Y) ⊗ A) (Y ⊗ (one ⊗ A ⊕ one ⊗ B) ⊕ (X ⊗ A ⊕ Y ⊗ B)) refl
-              ∙ ap₂ (λ (p q : ℕ). bit_xor (f.product y p) q) r0 r1 ∙ none y hy),
-          quotient (bit_xor x y) β hxy hb (sum_nonzero x y ne)
-              (solve f L (x ∷ y ∷ 0 ∷ α ∷ β ∷ []) bs ((X ⊕ Y) ⊗ B) (X ⊗ (one ⊗ A ⊕ one ⊗ B) ⊕ (X ⊗ A ⊕ Y ⊗ B)) refl
-              ∙ ap₂ (λ (p q : ℕ). bit_xor (f.product x p) q) r0 r1 ∙ none x hx),
+          quotient f L (bit_xor x y) α hxy ha (sum_nonzero x y ne)
+              (cc (solve f L (x ∷ y ∷ 0 ∷ α ∷ β ∷ []) bs ((X ⊕ Y) ⊗ A) (Y ⊗ (one ⊗ A ⊕ one ⊗ B) ⊕ (X ⊗ A ⊕ Y ⊗ B)) refl, none y hy)),
+          quotient f L (bit_xor x y) β hxy hb (sum_nonzero x y ne)
+              (cc (solve f L (x ∷ y ∷ 0 ∷ α ∷ β ∷ []) bs ((X ⊕ Y) ⊗ B) (X ⊗ (one ⊗ A ⊕ one ⊗ B) ⊕ (X ⊗ A ⊕ Y ⊗ B)) refl, none x hx)),
         )
 
     two_high : RowTwo 2 x y α β → RowTwo 3 x y α β → (α ≡ 0) × (β ≡ 0)
@@ -94,14 +85,12 @@ module _ (f : FieldMeaning) (L : FieldLaws f) where
         let hxy : bit_xor x y < size f = xor_below f L x y hx hy in
         let hxx : f.product x x < size f = L.closed x x hx hx in
         let hyy : f.product y y < size f = L.closed y y hy hy in (
-          quotient (f.product (bit_xor x y) (f.product x x)) α (L.closed (bit_xor x y) (f.product x x) hxy hxx) ha
+          quotient f L (f.product (bit_xor x y) (f.product x x)) α (L.closed (bit_xor x y) (f.product x x) hxy hxx) ha
               (product_nonzero (bit_xor x y) (f.product x x) hxy hxx (sum_nonzero x y ne) (product_nonzero x x hx hx nx nx))
-              (solve f L (x ∷ y ∷ 0 ∷ α ∷ β ∷ []) bs (((X ⊕ Y) ⊗ (X ⊗ X)) ⊗ A) (Y ⊗ (X ⊗ X ⊗ A ⊕ Y ⊗ Y ⊗ B) ⊕ (X ⊗ X ⊗ X ⊗ A ⊕ Y ⊗ Y ⊗ Y ⊗ B)) refl
-              ∙ ap₂ (λ (p q : ℕ). bit_xor (f.product y p) q) r2 r3 ∙ none y hy),
-          quotient (f.product (bit_xor x y) (f.product y y)) β (L.closed (bit_xor x y) (f.product y y) hxy hyy) hb
+              (cc (solve f L (x ∷ y ∷ 0 ∷ α ∷ β ∷ []) bs (((X ⊕ Y) ⊗ (X ⊗ X)) ⊗ A) (Y ⊗ (X ⊗ X ⊗ A ⊕ Y ⊗ Y ⊗ B) ⊕ (X ⊗ X ⊗ X ⊗ A ⊕ Y ⊗ Y ⊗ Y ⊗ B)) refl, none y hy)),
+          quotient f L (f.product (bit_xor x y) (f.product y y)) β (L.closed (bit_xor x y) (f.product y y) hxy hyy) hb
               (product_nonzero (bit_xor x y) (f.product y y) hxy hyy (sum_nonzero x y ne) (product_nonzero y y hy hy ny ny))
-              (solve f L (x ∷ y ∷ 0 ∷ α ∷ β ∷ []) bs (((X ⊕ Y) ⊗ (Y ⊗ Y)) ⊗ B) (X ⊗ (X ⊗ X ⊗ A ⊕ Y ⊗ Y ⊗ B) ⊕ (X ⊗ X ⊗ X ⊗ A ⊕ Y ⊗ Y ⊗ Y ⊗ B)) refl
-              ∙ ap₂ (λ (p q : ℕ). bit_xor (f.product x p) q) r2 r3 ∙ none x hx),
+              (cc (solve f L (x ∷ y ∷ 0 ∷ α ∷ β ∷ []) bs (((X ⊕ Y) ⊗ (Y ⊗ Y)) ⊗ B) (X ⊗ (X ⊗ X ⊗ A ⊕ Y ⊗ Y ⊗ B) ⊕ (X ⊗ X ⊗ X ⊗ A ⊕ Y ⊗ Y ⊗ Y ⊗ B)) refl, none x hx)),
         )
 
   -- three points
@@ -111,22 +100,21 @@ module _ (f : FieldMeaning) (L : FieldLaws f) where
 
   module _ (x y z α β γ : ℕ) (hx : x < size f) (hy : y < size f) (hz : z < size f)
       (ha : α < size f) (hb : β < size f) (hc : γ < size f) where
-    last_point : (x ≡ z → ⊥) → (y ≡ z → ⊥) → RowThree 0 x y z α β γ → RowThree 1 x y z α β γ → RowThree 2 x y z α β γ → γ ≡ 0
+    last_point : (x ≢ z) → (y ≢ z) → RowThree 0 x y z α β γ → RowThree 1 x y z α β γ → RowThree 2 x y z α β γ → γ ≡ 0
     last_point nx ny r0 r1 r2 =
         let hxz : bit_xor x z < size f = xor_below f L x z hx hz in
         let hyz : bit_xor y z < size f = xor_below f L y z hy hz in
-        quotient (f.product (bit_xor x z) (bit_xor y z)) γ (L.closed (bit_xor x z) (bit_xor y z) hxz hyz) hc
+        quotient f L (f.product (bit_xor x z) (bit_xor y z)) γ (L.closed (bit_xor x z) (bit_xor y z) hxz hyz) hc
         (product_nonzero (bit_xor x z) (bit_xor y z) hxz hyz (sum_nonzero x z nx) (sum_nonzero y z ny))
-        (solve f L (x ∷ y ∷ z ∷ α ∷ β ∷ γ ∷ []) (hx, (hy, (hz, (ha, (hb, (hc, tt))))))
-        (((X ⊕ Z) ⊗ (Y ⊕ Z)) ⊗ C)
-        (((X ⊗ Y) ⊗ (one ⊗ A ⊕ one ⊗ B ⊕ one ⊗ C) ⊕ (X ⊕ Y) ⊗ (X ⊗ A ⊕ Y ⊗ B ⊕ Z ⊗ C)) ⊕ ((X ⊗ X) ⊗ A ⊕ (Y ⊗ Y) ⊗ B ⊕ (Z ⊗ Z) ⊗ C)) refl
-        ∙ ap₂ bit_xor
-        (ap₂ bit_xor
-        (ap (f.product (f.product x y)) r0 ∙ times_zero f L (f.product x y) (L.closed x y hx hy))
-        (ap (f.product (bit_xor x y)) r1 ∙ times_zero f L (bit_xor x y) (xor_below f L x y hx hy)))
-        r2)
+        (cc (
+          solve f L (x ∷ y ∷ z ∷ α ∷ β ∷ γ ∷ []) (hx, (hy, (hz, (ha, (hb, (hc, tt))))))
+              (((X ⊕ Z) ⊗ (Y ⊕ Z)) ⊗ C)
+              (((X ⊗ Y) ⊗ (one ⊗ A ⊕ one ⊗ B ⊕ one ⊗ C) ⊕ (X ⊕ Y) ⊗ (X ⊗ A ⊕ Y ⊗ B ⊕ Z ⊗ C)) ⊕ ((X ⊗ X) ⊗ A ⊕ (Y ⊗ Y) ⊗ B ⊕ (Z ⊗ Z) ⊗ C)) refl,
+          times_zero f L (f.product x y) (L.closed x y hx hy),
+          times_zero f L (bit_xor x y) (xor_below f L x y hx hy),
+        ))
 
-    three_points : (x ≡ 0 → ⊥) → (y ≡ 0 → ⊥) → (x ≡ y → ⊥) → (x ≡ z → ⊥) → (y ≡ z → ⊥)
+    three_points : (x ≢ 0) → (y ≢ 0) → (x ≢ y) → (x ≢ z) → (y ≢ z)
         → RowThree 0 x y z α β γ → RowThree 1 x y z α β γ → RowThree 2 x y z α β γ → (α ≡ 0) × (β ≡ 0) × (γ ≡ 0)
     three_points nx ny xy xz yz r0 r1 r2 =
         let g : γ ≡ 0 = last_point xz yz r0 r1 r2 in
@@ -135,10 +123,7 @@ module _ (f : FieldMeaning) (L : FieldLaws f) where
       where
         less : (j : ℕ) → γ ≡ 0 → RowThree j x y z α β γ → RowTwo j x y α β
         less j g r =
-            sym (xor_zero_r (bit_xor (f.product (power_of f j x) α) (f.product (power_of f j y) β)))
-            ∙ ap (bit_xor (bit_xor (f.product (power_of f j x) α) (f.product (power_of f j y) β)))
-            (sym (ap (f.product (power_of f j z)) g ∙ times_zero f L (power_of f j z) (power_below f L j z hz)))
-            ∙ r
+            cc (xor_zero_r (bit_xor (f.product (power_of f j x) α) (f.product (power_of f j y) β)), times_zero f L (power_of f j z) (power_below f L j z hz))
 
 -- P at every place below n, from P at all but three and at each of the three
 pub from_three : (P : ℕ → Type 0) (n a b c : ℕ) → ButThree n P a b c → (a < n → P a) → (b < n → P b) → (c < n → P c) → (p : ℕ) → p < n → P p
@@ -151,7 +136,7 @@ from_three P n a b c z pa pb pc p h =
 
 -- from three places in order to any three
 module _ (n : ℕ) (P : ℕ → Type 0) (Q : Type 0) (strict : (a b c : ℕ) → a < b → b < c → ButThree n P a b c → Q) where
-  of_two : (a b : ℕ) → ((p : ℕ) → p < n → (p ≡ a → ⊥) → (p ≡ b → ⊥) → P p) → Q
+  of_two : (a b : ℕ) → ((p : ℕ) → p < n → (p ≢ a) → (p ≢ b) → P p) → Q
   of_two a b z =
       ⊎_elim
       (λ e. strict a (a + 1) (a + 2) (omega arith) (omega arith) (λ p h na nb nc. z p h na (λ q. na (q ∙ sym e))))
@@ -203,9 +188,7 @@ module _ (f : FieldMeaning) (L : FieldLaws f) (w : List ℕ) (W : Word (systemat
   at_point j p h = ap (λ (y : ℕ). f.product y (at w p)) (entry_point f L j p h)
 
   at_zero : (j p : ℕ) → p < k → at w p ≡ 0 → term j p ≡ 0
-  at_zero j p h e =
-      at_point j p h ∙ ap (f.product (power_of f j (point f p))) e
-      ∙ times_zero f L (power_of f j (point f p)) (power_below f L j (point f p) (point_below f L p h))
+  at_zero j p h e = grind (arith, at_point, times_zero, power_below, point_below)
 
   -- zero at every point, and so everywhere
   at_units : ((p : ℕ) → p < k → at w p ≡ 0) → (p : ℕ) → p < k + 4 → at w p ≡ 0
@@ -228,10 +211,8 @@ module _ (f : FieldMeaning) (L : FieldLaws f) (w : List ℕ) (W : Word (systemat
       where
         row : (j : ℕ) → j < 4 → a < k → b < k → RowThree f L j (point f a) (point f b) (point f c) (at w a) (at w b) (at w c)
         row j hj ha hb =
-            sym (ap₂ bit_xor (ap₂ bit_xor (at_point j a ha) (at_point j b hb)) (at_point j c h))
-            ∙ sym (sum_three k (term j) a b c ab bc h (λ p l na nb nc. at_zero j p l (inner p l na nb nc)))
-            ∙ sym (tail j hj)
-            ∙ z (k + j) (omega arith) (omega arith) (omega arith) (omega arith)
+            let sum = sum_three k (term j) a b c ab bc h (λ p l na nb nc. at_zero j p l (inner p l na nb nc)) in
+            cc (at_point j a ha, at_point j b hb, at_point j c h, tail j hj, z (k + j) (omega arith) (omega arith) (omega arith) (omega arith))
 
     two : b < k → k ≤ c → (p : ℕ) → p < k → at w p ≡ 0
     two hb h =
@@ -248,12 +229,10 @@ module _ (f : FieldMeaning) (L : FieldLaws f) (w : List ℕ) (W : Word (systemat
         (cases_lt c (k + 2)) in
         from_three (λ p. at w p ≡ 0) k a b c inner (λ _. e.0) (λ _. e.1) (λ l. absurd (omega arith))
       where
-        row : (j : ℕ) → j < 4 → (k + j ≡ c → ⊥) → a < k → RowTwo f L j (point f a) (point f b) (at w a) (at w b)
+        row : (j : ℕ) → j < 4 → (k + j ≢ c) → a < k → RowTwo f L j (point f a) (point f b) (at w a) (at w b)
         row j hj nc ha =
-            sym (ap₂ bit_xor (at_point j a ha) (at_point j b hb))
-            ∙ sym (sum_two k (term j) a b ab hb (λ p l na nb. at_zero j p l (inner p l na nb (omega arith))))
-            ∙ sym (tail j hj)
-            ∙ z (k + j) (omega arith) (omega arith) (omega arith) nc
+            let sum = sum_two k (term j) a b ab hb (λ p l na nb. at_zero j p l (inner p l na nb (omega arith))) in
+            cc (at_point j a ha, at_point j b hb, tail j hj, z (k + j) (omega arith) (omega arith) (omega arith) nc)
 
     once : a < k → k ≤ b → (p : ℕ) → p < k → at w p ≡ 0
     once ha h =
@@ -266,21 +245,14 @@ module _ (f : FieldMeaning) (L : FieldLaws f) (w : List ℕ) (W : Word (systemat
         (cases_lt k b) in
         from_three (λ p. at w p ≡ 0) k a b c inner (λ _. e) (λ l. absurd (omega arith)) (λ l. absurd (omega arith))
       where
-        row : (j : ℕ) → j < 4 → (k + j ≡ b → ⊥) → (k + j ≡ c → ⊥) → at w a ≡ 0
+        row : (j : ℕ) → j < 4 → (k + j ≢ b) → (k + j ≢ c) → at w a ≡ 0
         row j hj nb nc =
+            let sum = sum_one k (term j) a ha (λ p l na. at_zero j p l (inner p l na (omega arith) (omega arith))) in
             one_point f L j (point f a) (at w a) (point_below f L a ha) (element a ha) (point_nonzero f L a ha)
-            (sym (at_point j a ha)
-            ∙ sym (sum_one k (term j) a ha (λ p l na. at_zero j p l (inner p l na (omega arith) (omega arith))))
-            ∙ sym (tail j hj)
-            ∙ z (k + j) (omega arith) (omega arith) nb nc)
+            (cc (at_point j a ha, tail j hj, z (k + j) (omega arith) (omega arith) nb nc))
 
     points : (p : ℕ) → p < k → at w p ≡ 0
-    points =
-        ⊎_elim (λ (l : c < k). three l)
-        (λ (l : k ≤ c). ⊎_elim (λ (m : b < k). two m l)
-        (λ (m : k ≤ b). ⊎_elim (λ (o : a < k). once o m)
-        (λ (o : k ≤ a). λ p h. inner p h (omega arith) (omega arith) (omega arith))
-        (cases_lt a k)) (cases_lt b k)) (cases_lt c k)
+    points = grind (arith, three, two, once, inner)
 
     strict : (p : ℕ) → p < k + 4 → at w p ≡ 0
     strict = at_units points

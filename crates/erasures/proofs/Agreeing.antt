@@ -1,6 +1,7 @@
 -- What a cell counts for, and the words that agree with what is held.
-use Rattle.std.proofs.Common.{◌≡◌, ℕ, zero, suc, ◌<◌, ◌≤◌, cond, ltb, ◌⊎◌, List, get_or, Some, None, Option, sym, refl, ap, ◌∙◌, subst, inl, inr, ⊎_elim, arith}
-use Rattle.std.proofs.lemmas.Bool.{cases_Bool, cases_eq, cases_lt, ltb-true, lt-ltb, le-ltb, cond-true, cond-false}
+use Rattle.std.proofs.Common.{◌≡◌, ◌≢◌, ℕ, zero, suc, ◌<◌, ◌≤◌, ◌⊎◌, List, get_or, Some, None, Option, sym, refl, ap, ◌∙◌, inl, inr, ⊎_elim, arith}
+use Rattle.std.proofs.lemmas.Bool.{cases_eq, cases_lt}
+use Rattle.std.proofs.lemmas.Bool.Decides.{nat_tests}
 use Rattle.fields.specs.Meaning.{size}
 use Rattle.codes.specs.Words.{CodeMeaning, Word, at}
 use Rattle.codes.proofs.Sums.{same_at}
@@ -9,47 +10,25 @@ use Rattle.erasures.proofs.Reducing.{some_none, some_some}
 use Rattle.erasures.proofs.Correcting.{option_cases}
 
 element_some : (q : ℕ) (o : Option ℕ) (v : ℕ) → element_of q o ≡ Some v → (v < q) × (o ≡ Some v)
-element_some q None v e = absurd (some_none e refl)
-element_some q (Some u) v e =
-    ⊎_elim
-    (λ t. let s : Some u ≡ Some v = sym (cond-true (ltb u q) (Some u) None t) ∙ e in (subst (λ (x : ℕ). x < q) (some_some refl s) (ltb-true u q t), s))
-    (λ t. absurd (some_none e (cond-false (ltb u q) (Some u) None t))) (cases_Bool (ltb u q))
+element_some q None v e = cc
+element_some q (Some u) v e = grind (arith, nat_tests)
 
 module _ (m : CodeMeaning) (cells : List (Option ℕ)) where
   pub held_past : (p : ℕ) → m.places ≤ p → held m cells p ≡ None
   unfolding held
-  held_past p l = cond-false (ltb p m.places) (element_of (size m.field) (get_or cells p None)) None (le-ltb p m.places l)
-
-  pub held_at : (p : ℕ) → p < m.places → held m cells p ≡ element_of (size m.field) (get_or cells p None)
-  unfolding held
-  held_at p l = cond-true (ltb p m.places) (element_of (size m.field) (get_or cells p None)) None (lt-ltb p m.places l)
+  held_past p l = grind (arith, nat_tests)
 
   pub held_some : (p v : ℕ) → held m cells p ≡ Some v → (p < m.places) × (v < size m.field) × (get_or cells p None ≡ Some v)
   unfolding held
   held_some p v e =
       ⊎_elim
-      (λ t.
-      let l = ltb-true p m.places t in
-      let w = element_some (size m.field) (get_or cells p None) v (sym (held_at p l) ∙ e) in
-      (l, w.0, w.1))
-      (λ t. absurd (some_none e (cond-false (ltb p m.places) (element_of (size m.field) (get_or cells p None)) None t)))
-      (cases_Bool (ltb p m.places))
-
-  pub held_is : (p v : ℕ) → p < m.places → v < size m.field → get_or cells p None ≡ Some v → held m cells p ≡ Some v
-  held_is p v l b e =
-      held_at p l ∙ ap (element_of (size m.field)) e ∙ cond-true (ltb v (size m.field)) (Some v) None (lt-ltb v (size m.field) b)
-
-  pub held_large : (p v : ℕ) → p < m.places → size m.field ≤ v → get_or cells p None ≡ Some v → held m cells p ≡ None
-  held_large p v l b e =
-      held_at p l ∙ ap (element_of (size m.field)) e ∙ cond-false (ltb v (size m.field)) (Some v) None (le-ltb v (size m.field) b)
-
-  pub held_empty : (p : ℕ) → get_or cells p None ≡ None → held m cells p ≡ None
-  held_empty p e = ⊎_elim (λ l. held_at p l ∙ ap (element_of (size m.field)) e) (held_past p) (cases_lt p m.places)
+      (λ l. let w = element_some (size m.field) (get_or cells p None) v (grind (arith, nat_tests)) in (l, w.0, w.1))
+      (λ l. absurd (some_none e (held_past p l))) (cases_lt p m.places)
 
 -- only the cell of the place counts
 pub held_same : (m : CodeMeaning) (xs ys : List (Option ℕ)) (p : ℕ) → get_or xs p None ≡ get_or ys p None → held m xs p ≡ held m ys p
 unfolding held
-held_same m xs ys p e = ap (λ (o : Option ℕ). cond (ltb p m.places) (element_of (size m.field) o) None) e
+held_same m xs ys p e = rw e refl
 
 -- the places below n, looked through
 pub agree_or_differ : (state : State) (w : List ℕ) (n : ℕ) → ((p v : ℕ) → p < n → state p ≡ Some v → at w p ≡ v) ⊎ Differs (holding state) w
@@ -67,7 +46,7 @@ agree_or_differ state w (suc n) = ⊎_elim (λ below. here below (option_cases (
         ⊎_elim (λ same. inl (last below (λ v e. same ∙ some_some z e))) (λ other. inr (n, (x, z, other))) (cases_eq (at w n) x)
 
 -- symbol by symbol
-same_or_not : (v w : List ℕ) (n : ℕ) → ((p : ℕ) → p < n → at v p ≡ at w p) ⊎ ((p : ℕ) × (at v p ≡ at w p → ⊥))
+same_or_not : (v w : List ℕ) (n : ℕ) → ((p : ℕ) → p < n → at v p ≡ at w p) ⊎ ((p : ℕ) × (at v p ≢ at w p))
 same_or_not v w zero = inl (λ p l. absurd (omega arith))
 same_or_not v w (suc n) =
     ⊎_elim

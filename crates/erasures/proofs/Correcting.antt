@@ -1,5 +1,5 @@
 -- What the rows tell of the corrections when all n places are gone through.
-use Rattle.std.proofs.Common.{◌≡◌, ℕ, zero, suc, ◌^◌, ◌<◌, ◌⊎◌, Some, None, Option, sym, refl, ap, ◌∙◌, subst, ap₂, inl, inr, ⊎_elim, arith, pow_pos}
+use Rattle.std.proofs.Common.{◌≡◌, ◌≢◌, ℕ, zero, suc, ◌^◌, ◌<◌, ◌⊎◌, Some, None, Option, sym, refl, ap, ◌∙◌, subst, ap₂, inl, inr, ⊎_elim, arith, pow_pos}
 use lib.Bits.{bit_xor, xor_comm, xor_assoc, xor_self, xor_zero_r, xor_lt}
 use Rattle.std.proofs.lemmas.Bool.{cases_eq, cases_lt}
 use Rattle.codes.specs.Words.{sum}
@@ -16,23 +16,23 @@ option_cases None = inl refl
 option_cases (Some x) = inr (x, refl)
 
 -- two terms that may be other than 0, in either order
-sum_both : (n : ℕ) (f : ℕ → ℕ) (a b : ℕ) → a < n → b < n → (a ≡ b → ⊥) → ((i : ℕ) → i < n → (i ≡ a → ⊥) → (i ≡ b → ⊥) → f i ≡ 0)
+sum_both : (n : ℕ) (f : ℕ → ℕ) (a b : ℕ) → a < n → b < n → (a ≢ b) → ((i : ℕ) → i < n → (i ≢ a) → (i ≢ b) → f i ≡ 0)
     → sum n f ≡ bit_xor (f a) (f b)
 sum_both n f a b la lb ne z =
     ⊎_elim (λ l. sum_two n f a b l lb z)
     (λ l. sum_two n f b a (omega (arith, ne)) la (λ i m p q. z i m q p) ∙ xor_comm (f b) (f a)) (cases_lt a b)
 
--- the row that is used for a place, looked for among the first r
-pub find_row : (pivot : ℕ → Option ℕ) (r p : ℕ) → ((i : ℕ) × (i < r) × (pivot i ≡ Some p)) ⊎ ((i : ℕ) → i < r → pivot i ≡ Some p → ⊥)
+-- the row that is assigned to a place, looked for among the first r
+pub find_row : (pivot : ℕ → Option ℕ) (r p : ℕ) → ((i : ℕ) × (i < r) × (pivot i ≡ Some p)) ⊎ ((i : ℕ) → i < r → pivot i ≢ Some p)
 find_row pivot zero p = inr (λ i l q. omega arith)
 find_row pivot (suc r) p =
     ⊎_elim (λ w. inl (w.0, omega (arith, w.1), w.2)) (λ none. here none (option_cases (pivot r))) (find_row pivot r p)
   where
-    last : ((i : ℕ) → i < r → pivot i ≡ Some p → ⊥) → (pivot r ≡ Some p → ⊥) → (i : ℕ) → i < suc r → pivot i ≡ Some p → ⊥
+    last : ((i : ℕ) → i < r → pivot i ≢ Some p) → (pivot r ≢ Some p) → (i : ℕ) → i < suc r → pivot i ≢ Some p
     last none other i l q = ⊎_elim (λ z. other (ap pivot (sym z) ∙ q)) (λ z. none i (omega arith) q) (cases_eq i r)
 
-    here : ((i : ℕ) → i < r → pivot i ≡ Some p → ⊥) → (pivot r ≡ None) ⊎ ((x : ℕ) × (pivot r ≡ Some x))
-        → ((i : ℕ) × (i < suc r) × (pivot i ≡ Some p)) ⊎ ((i : ℕ) → i < suc r → pivot i ≡ Some p → ⊥)
+    here : ((i : ℕ) → i < r → pivot i ≢ Some p) → (pivot r ≡ None) ⊎ ((x : ℕ) × (pivot r ≡ Some x))
+        → ((i : ℕ) × (i < suc r) × (pivot i ≡ Some p)) ⊎ ((i : ℕ) → i < suc r → pivot i ≢ Some p)
     here none (inl e) = inr (last none (λ q. some_none q e))
     here none (inr (x, e)) =
         ⊎_elim (λ q. inl (r, omega arith, e ∙ ap Some q)) (λ ne. inr (last none (λ q. ne (some_some e q)))) (cases_eq x p)
@@ -78,10 +78,10 @@ module _ (width : ℕ) (mul : ℕ → ℕ → ℕ) (T : Times width mul) (r n : 
   term_zero i p y z = ap (λ (w : ℕ). mul w y) z ∙ zero_mul width mul T y
 
   -- a row sees no other place that has a row
-  other_zero : (i : ℕ) → i < r → (p u : ℕ) → u < r → pivot u ≡ Some p → (pivot i ≡ Some p → ⊥) → dot mul r (e i) (h p) ≡ 0
+  other_zero : (i : ℕ) → i < r → (p u : ℕ) → u < r → pivot u ≡ Some p → (pivot i ≢ Some p) → dot mul r (e i) (h p) ≡ 0
   other_zero i l p u m q ne = R.zeros u p m q i l (λ z. ne (ap pivot z ∙ q))
 
-  -- a row that is used for no place sees no lost one
+  -- a row that is assigned to no place sees no lost one
   open_zero : (i : ℕ) → i < r → pivot i ≡ None → (p : ℕ) → p < n → state p ≡ None → dot mul r (e i) (h p) ≡ 0
   open_zero i l none p m lost =
       ⊎_elim (λ w. other_zero i l p w.0 w.1 w.2 (λ q. some_none q none)) (λ f. (f i l).1 none) (R.placed p m lost)
@@ -101,8 +101,8 @@ module _ (width : ℕ) (mul : ℕ → ℕ → ℕ) (T : Times width mul) (r n : 
   each_row x held unused used i l =
       ⊎_elim (λ none. unused i l none ∙ sym (open_made x held i l none)) (λ w. sym (used i w.0 l w.1)) (option_cases (pivot i))
 
-  -- a row that is used for no place, with a sum other than 0: there is no correction
-  pub none_corrects : (i : ℕ) → i < r → pivot i ≡ None → (t i ≡ 0 → ⊥) → (x : ℕ → ℕ) → Corrects width mul r n h s state x → ⊥
+  -- a row that is assigned to no place, with a sum other than 0: there is no correction
+  pub none_corrects : (i : ℕ) → i < r → pivot i ≡ None → (t i ≢ 0) → (x : ℕ → ℕ) → Corrects width mul r n h s state x → ⊥
   none_corrects i l none ne x X = ne (down x X i l ∙ open_made x X.zero_where_held i l none)
 
   -- every lost place has a row: the correction has those rows' sums
@@ -140,9 +140,9 @@ module _ (width : ℕ) (mul : ℕ → ℕ → ℕ) (T : Times width mul) (r n : 
         is : (x : ℕ → ℕ) → Corrects width mul r n h s state x → (i : ℕ) → i < r → pivot i ≡ Some p → x p ≡ t i
         is x X i l q = sym (down x X i l ∙ full_made x X.zero_where_held i p l q (X.elements p m))
 
-  -- a lost place f that no row is used for: a correction for each element b, which it has there
-  module _ (f : ℕ) (within : f < n) (lost : state f ≡ None) (free : (i : ℕ) → i < r → pivot i ≡ Some f → ⊥) (b : ℕ) (small : b < 2 ^ width) where
-    choose : (p : ℕ) → ((i : ℕ) × (i < r) × (pivot i ≡ Some p)) ⊎ ((i : ℕ) → i < r → pivot i ≡ Some p → ⊥) → ℕ
+  -- a lost place f that no row is assigned to: a correction for each element b, which it has there
+  module _ (f : ℕ) (within : f < n) (lost : state f ≡ None) (free : (i : ℕ) → i < r → pivot i ≢ Some f) (b : ℕ) (small : b < 2 ^ width) where
+    choose : (p : ℕ) → ((i : ℕ) × (i < r) × (pivot i ≡ Some p)) ⊎ ((i : ℕ) → i < r → pivot i ≢ Some p) → ℕ
     choose p (inl w) = bit_xor (t w.0) (mul (dot mul r (e w.0) (h f)) b)
     choose p (inr w) = mul (unit f p) b
 
@@ -153,23 +153,23 @@ module _ (width : ℕ) (mul : ℕ → ℕ → ℕ) (T : Times width mul) (r n : 
     unfolding chosen choose
     chosen_row i p l q = go (find_row pivot r p)
       where
-        go : (d : ((u : ℕ) × (u < r) × (pivot u ≡ Some p)) ⊎ ((u : ℕ) → u < r → pivot u ≡ Some p → ⊥))
+        go : (d : ((u : ℕ) × (u < r) × (pivot u ≡ Some p)) ⊎ ((u : ℕ) → u < r → pivot u ≢ Some p))
             → choose p d ≡ bit_xor (t i) (mul (dot mul r (e i) (h f)) b)
         go (inl w) = ap (λ (u : ℕ). bit_xor (t u) (mul (dot mul r (e u) (h f)) b)) (one_row w.0 i p w.1 l w.2 q)
         go (inr w) = absurd (w i l q)
 
-    chosen_free : (p : ℕ) → ((i : ℕ) → i < r → pivot i ≡ Some p → ⊥) → chosen p ≡ mul (unit f p) b
+    chosen_free : (p : ℕ) → ((i : ℕ) → i < r → pivot i ≢ Some p) → chosen p ≡ mul (unit f p) b
     unfolding chosen choose
     chosen_free p none = go (find_row pivot r p)
       where
-        go : (d : ((u : ℕ) × (u < r) × (pivot u ≡ Some p)) ⊎ ((u : ℕ) → u < r → pivot u ≡ Some p → ⊥)) → choose p d ≡ mul (unit f p) b
+        go : (d : ((u : ℕ) × (u < r) × (pivot u ≡ Some p)) ⊎ ((u : ℕ) → u < r → pivot u ≢ Some p)) → choose p d ≡ mul (unit f p) b
         go (inl w) = absurd (none w.0 w.1 w.2)
         go (inr w) = refl
 
     pub chosen_there : chosen f ≡ b
     chosen_there = chosen_free f free ∙ ap (λ (u : ℕ). mul u b) (unit_own f) ∙ T.neutral b small
 
-    chosen_zero : (p : ℕ) → (p ≡ f → ⊥) → ((i : ℕ) → i < r → pivot i ≡ Some p → ⊥) → chosen p ≡ 0
+    chosen_zero : (p : ℕ) → (p ≢ f) → ((i : ℕ) → i < r → pivot i ≢ Some p) → chosen p ≡ 0
     chosen_zero p ne none = chosen_free p none ∙ ap (λ (u : ℕ). mul u b) (unit_other f p ne) ∙ zero_mul width mul T b
 
     chosen_held : ZeroWhereHeld chosen

@@ -3,5 +3,4 @@ pub mod Reducing
 pub mod Correcting
 pub mod Agreeing
 pub mod Repairing
-pub mod Rows
 pub mod Eliminating

@@ -5,7 +5,7 @@ use Rattle.fields.specs.Meaning.{FieldMeaning, FieldLaws, size}
 use Rattle.fields.proofs.Additive.{additive_zero}
 use Rattle.fields.proofs.Identities.{one_below}
 use Rattle.codes.specs.Words.{sum}
-use Rattle.codes.proofs.Sums.{sum_cong, sum_zero, sum_xor, sum_below, sum_swap}
+use Rattle.codes.proofs.Sums.{sum_cong, sum_xor, sum_below, sum_swap}
 use Rattle.erasures.specs.Elimination.{times, Times, dot}
 
 module _ (f : FieldMeaning) (L : FieldLaws f) where
@@ -53,9 +53,6 @@ module _ (width : ℕ) (mul : ℕ → ℕ → ℕ) (T : Times width mul) where
   module _ (r : ℕ) where
     pub dot_below : (a y : ℕ → ℕ) → dot mul r a y < 2 ^ width
     dot_below a y = sum_below width r (λ j. mul (a j) (y j)) (λ j l. T.below (a j) (y j))
-
-    pub dot_zero : (a y : ℕ → ℕ) → ((j : ℕ) → j < r → y j ≡ 0) → dot mul r a y ≡ 0
-    dot_zero a y h = sum_zero r (λ j. mul (a j) (y j)) (λ j l. ap (mul (a j)) (h j l) ∙ mul_zero (a j))
 
     pub dot_sum : (a y z : ℕ → ℕ) → dot mul r a (λ j. bit_xor (y j) (z j)) ≡ bit_xor (dot mul r a y) (dot mul r a z)
     dot_sum a y z =

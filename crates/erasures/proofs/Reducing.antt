@@ -1,5 +1,5 @@
 -- What each step of the elimination keeps.
-use Rattle.std.proofs.Common.{◌≡◌, ℕ, ◌+◌, ◌^◌, ◌<◌, Some, None, Option, sym, ap, ◌∙◌, subst, ap₂, inl, inr, ⊎_elim, arith}
+use Rattle.std.proofs.Common.{◌≡◌, ◌≢◌, ℕ, ◌+◌, ◌^◌, ◌<◌, Some, None, Option, sym, ap, ◌∙◌, subst, ap₂, inl, inr, ⊎_elim, arith}
 use lib.Bits.{bit_xor, xor_self, xor_zero_r}
 use Rattle.std.proofs.lemmas.Bool.{cases_eq}
 use Rattle.codes.proofs.Sums.{sum_one}
@@ -8,7 +8,7 @@ use Rattle.erasures.specs.Elimination.{Times, dot, Reduced, Pivoted, Undetermine
 use Rattle.erasures.proofs.Products.{mul_zero, zero_mul, dot_below, dot_scaled, dot_added}
 
 pub some_none : {X : Type 0} {x : X} {o : Option X} → o ≡ Some x → o ≡ None → ⊥
-some_none e f = let z : ◌≡◌ {A = ℕ} 0 1 = cc in omega arith
+some_none e f = cc
 
 pub some_some : {X : Type 0} {x y : X} {o : Option X} → o ≡ Some x → o ≡ Some y → x ≡ y
 some_some e f = cc
@@ -16,7 +16,7 @@ some_some e f = cc
 module _ (width : ℕ) (mul : ℕ → ℕ → ℕ) (T : Times width mul) (r : ℕ) (h : ℕ → ℕ → ℕ) (s : ℕ → ℕ) (state : State) where
   -- the rows of the identity, before any place
   pub reduced_none : (e : ℕ → ℕ → ℕ) (t : ℕ → ℕ) (pivot : ℕ → Option ℕ) → ((i : ℕ) → i < r → e i i ≡ 1)
-      → ((i j : ℕ) → i < r → j < r → (j ≡ i → ⊥) → e i j ≡ 0) → ((i : ℕ) → i < r → t i ≡ s i)
+      → ((i j : ℕ) → i < r → j < r → (j ≢ i) → e i j ≡ 0) → ((i : ℕ) → i < r → t i ≡ s i)
       → ((i : ℕ) → i < r → s i < 2 ^ width) → ((i : ℕ) → i < r → pivot i ≡ None) → Reduced width mul r h s state 0 e t pivot
   reduced_none e t pivot on off same low none = record {
     regular = λ y b z j l. sym (unit y b j l) ∙ z j l;
@@ -52,7 +52,7 @@ module _ (width : ℕ) (mul : ℕ → ℕ → ℕ) (T : Times width mul) (r : �
     pub reduced_held : (v : ℕ) → state done ≡ Some v → Reduced width mul r h s state (done + 1) e t pivot
     reduced_held v q = reduced_next (λ lost. absurd (some_none q lost))
 
-    -- no row that is used for no place sees this one
+    -- no row that is assigned to no place sees this one
     pub reduced_undetermined : ((i : ℕ) → i < r → pivot i ≡ None → dot mul r (e i) (h done) ≡ 0)
         → Reduced width mul r h s state (done + 1) e t pivot
     reduced_undetermined unseen =
@@ -60,18 +60,18 @@ module _ (width : ℕ) (mul : ℕ → ℕ → ℕ) (T : Times width mul) (r : �
 
     module _ (i by : ℕ) (e' : ℕ → ℕ → ℕ) (t' : ℕ → ℕ) (pivot' : ℕ → Option ℕ) (lost : state done ≡ None) (here : i < r) (unused : pivot i ≡ None)
         (c : ℕ → ℕ) (column : (o : ℕ) → o < r → c o ≡ dot mul r (e o) (h done)) (inverse : mul by (c i) ≡ 1)
-        (P : Pivoted mul r i by c e t e' t') (pivot_at : pivot' i ≡ Some done) (pivot_off : (o : ℕ) → (o ≡ i → ⊥) → pivot' o ≡ pivot o) where
+        (P : Pivoted mul r i by c e t e' t') (pivot_at : pivot' i ≡ Some done) (pivot_off : (o : ℕ) → (o ≢ i) → pivot' o ≡ pivot o) where
       at_row : (y : ℕ → ℕ) → dot mul r (e' i) y ≡ mul by (dot mul r (e i) y)
       at_row y = dot_scaled width mul T r (e i) (e' i) y by P.at
 
-      off_row : (y : ℕ → ℕ) (o : ℕ) → o < r → (o ≡ i → ⊥) → dot mul r (e' o) y ≡ bit_xor (dot mul r (e o) y) (mul (c o) (dot mul r (e' i) y))
+      off_row : (y : ℕ → ℕ) (o : ℕ) → o < r → (o ≢ i) → dot mul r (e' o) y ≡ bit_xor (dot mul r (e o) y) (mul (c o) (dot mul r (e' i) y))
       off_row y o l n = dot_added width mul T r (e o) (e' o) (e' i) y (c o) (P.off o l n)
 
       -- where row i gave 0 it gives 0, and no other row changes
       at_zero : (y : ℕ → ℕ) → dot mul r (e i) y ≡ 0 → dot mul r (e' i) y ≡ 0
       at_zero y z = at_row y ∙ ap (mul by) z ∙ mul_zero width mul T by
 
-      off_zero : (y : ℕ → ℕ) → dot mul r (e' i) y ≡ 0 → (o : ℕ) → o < r → (o ≡ i → ⊥) → dot mul r (e' o) y ≡ dot mul r (e o) y
+      off_zero : (y : ℕ → ℕ) → dot mul r (e' i) y ≡ 0 → (o : ℕ) → o < r → (o ≢ i) → dot mul r (e' o) y ≡ dot mul r (e o) y
       off_zero y z o l n =
           off_row y o l n ∙ ap (λ (w : ℕ). bit_xor (dot mul r (e o) y) (mul (c o) w)) z
           ∙ ap (bit_xor (dot mul r (e o) y)) (mul_zero width mul T (c o)) ∙ xor_zero_r (dot mul r (e o) y)
@@ -98,14 +98,14 @@ module _ (width : ℕ) (mul : ℕ → ℕ → ℕ) (T : Times width mul) (r : �
       new_one : dot mul r (e' i) (h done) ≡ 1
       new_one = at_row (h done) ∙ ap (mul by) (sym (column i here)) ∙ inverse
 
-      new_zero : (o : ℕ) → o < r → (o ≡ i → ⊥) → dot mul r (e' o) (h done) ≡ 0
+      new_zero : (o : ℕ) → o < r → (o ≢ i) → dot mul r (e' o) (h done) ≡ 0
       new_zero o l n =
           let d = dot mul r (e o) (h done) in
           off_row (h done) o l n ∙ ap₂ (λ (u v : ℕ). bit_xor d (mul u v)) (column o l) new_one
           ∙ ap (bit_xor d) (T.commutes d 1 ∙ T.neutral d (dot_below width mul T r (e o) (h done))) ∙ xor_self d
 
-      -- which place a row is used for now
-      whose : (Q : ℕ → ℕ → Type 0) → Q i done → ((o p : ℕ) → (o ≡ i → ⊥) → pivot o ≡ Some p → Q o p) → (o p : ℕ) → pivot' o ≡ Some p → Q o p
+      -- which place a row is assigned to now
+      whose : (Q : ℕ → ℕ → Type 0) → Q i done → ((o p : ℕ) → (o ≢ i) → pivot o ≡ Some p → Q o p) → (o p : ℕ) → pivot' o ≡ Some p → Q o p
       whose Q new old o p q =
           ⊎_elim
           (λ z. let same : done ≡ p = some_some (ap pivot' z ∙ pivot_at) q in subst (λ (w : ℕ). Q w p) (sym z) (subst (Q i) same new))
@@ -122,7 +122,7 @@ module _ (width : ℕ) (mul : ℕ → ℕ → ℕ) (T : Times width mul) (r : �
             whose (λ o p. o < r → dot mul r (e' o) (h p) ≡ 1) (λ _. new_one)
             (λ o p n u m. stays (h p) (R.zeros o p m u i here (λ z. n (sym z))) o m ∙ R.one o p m u) o p q l;
         zeros = λ o p l q.
-            whose (λ o p. o < r → (u : ℕ) → u < r → (u ≡ o → ⊥) → dot mul r (e' u) (h p) ≡ 0) (λ _. new_zero)
+            whose (λ o p. o < r → (u : ℕ) → u < r → (u ≢ o) → dot mul r (e' u) (h p) ≡ 0) (λ _. new_zero)
             (λ o p n u m v k d. stays (h p) (R.zeros o p m u i here (λ z. n (sym z))) v k ∙ R.zeros o p m u v k d) o p q l;
         placed = λ p l gone.
             ⊎_elim

@@ -1,5 +1,5 @@
 -- From corrections to the words that agree with what is held.
-use Rattle.std.proofs.Common.{◌≡◌, ℕ, ◌<◌, Bool, true, false, List, length, Some, None, Option, sym, ap, ◌∙◌, subst, ap₂, ⊎_elim, arith, pow_pos}
+use Rattle.std.proofs.Common.{◌≡◌, ◌≢◌, ℕ, ◌<◌, true, false, List, length, Some, None, Option, sym, ap, ◌∙◌, subst, ap₂, ⊎_elim, arith, pow_pos}
 use lib.Bits.{bit_xor, xor_assoc, xor_self, xor_zero_r, xor_lt}
 use Rattle.fields.specs.Meaning.{size}
 use Rattle.fields.proofs.Identities.{one_below, zero_below}
@@ -7,7 +7,7 @@ use Rattle.codes.specs.Words.{CodeMeaning, CodeLaws, Word, sum, at}
 use Rattle.codes.specs.Arrays.{build}
 use Rattle.codes.proofs.Sums.{sum_cong, sum_xor, length_build, at_build, same_at}
 use Rattle.erasures.specs.Agreement.{State, held, holding, Agrees, NoWordAgrees, TheOneWord, TwoWords}
-use Rattle.erasures.specs.Elimination.{times, Times, Corrects, received, tail, cell, pivot_of, Determined, Contradicted, Eliminated}
+use Rattle.erasures.specs.Elimination.{times, Times, Corrects, received, Determined, Contradicted, Eliminated}
 use Rattle.erasures.proofs.Products.{times_is, times_laws}
 use Rattle.erasures.proofs.Correcting.{option_cases, none_corrects, row_corrects, only_corrects, chosen, chosen_there, chosen_corrects}
 use Rattle.erasures.proofs.Agreeing.{held_some, agree_or_differ}
@@ -86,18 +86,18 @@ module _ (m : CodeMeaning) (C : CodeLaws m) (cells : List (Option ℕ)) (s : ℕ
     gives = λ j l. sum_cong m.places _ _ (λ p o. ap (times m.field (m.entry j p)) (sym (same p o))) ∙ X.gives j l;
   }
 
-  module _ (rows : List (List ℕ)) (pivots : List (Option ℕ)) (determined : Bool)
-      (E : Eliminated m.field m.checks (λ p j. m.entry j p) s state m.places rows pivots determined)
+  module _ (e : ℕ → ℕ → ℕ) (t : ℕ → ℕ) (pivot : ℕ → Option ℕ) (undetermined : Option ℕ)
+      (E : Eliminated m.field m.checks (λ p j. m.entry j p) s state m.places e t pivot undetermined)
       (low : (j : ℕ) → j < m.checks → s j < size m.field) where
-    pub agree_none : Contradicted m.checks rows pivots true → NoWordAgrees m (holding state)
+    pub agree_none : Contradicted m.checks t pivot true → NoWordAgrees m (holding state)
     agree_none (i, l, none, ne) v V A =
         none_corrects m.field.width (times m.field) T m.checks m.places (λ p j. m.entry j p) s state
-        (cell rows) (tail m.checks rows) (pivot_of pivots) E.reduced low i l none ne _ (word_corrects v V A)
+        e t pivot E.reduced low i l none ne _ (word_corrects v V A)
 
-    -- z has what is held, and the sums of the rows at the places that they are used for
+    -- z has what is held, and the sums of the rows at the places that they are assigned to
     pub agree_one : (z : List ℕ) → length z ≡ m.places → ((p v : ℕ) → state p ≡ Some v → at z p ≡ v)
-        → ((i p : ℕ) → i < m.checks → pivot_of pivots i ≡ Some p → at z p ≡ tail m.checks rows i)
-        → Contradicted m.checks rows pivots false → Determined m.checks state m.places pivots true → TheOneWord m (holding state) z
+        → ((i p : ℕ) → i < m.checks → pivot i ≡ Some p → at z p ≡ t i)
+        → Contradicted m.checks t pivot false → Determined m.checks state m.places pivot None → TheOneWord m (holding state) z
     agree_one z long holds is unused full = record {
       word = corrected_word z long X;
       agrees = corrected_agrees z long X;
@@ -110,7 +110,7 @@ module _ (m : CodeMeaning) (C : CodeLaws m) (cells : List (Option ℕ)) (s : ℕ
         X : Correction (λ p. bit_xor (received (state p)) (at z p))
         X =
             row_corrects m.field.width (times m.field) T m.checks m.places (λ p j. m.entry j p) s state
-            (cell rows) (tail m.checks rows) (pivot_of pivots) E.reduced low full (λ p. bit_xor (received (state p)) (at z p))
+            e t pivot E.reduced low full (λ p. bit_xor (received (state p)) (at z p))
             (λ p v l e. ap₂ bit_xor (received_held p v e) (holds p v e) ∙ xor_self v)
             (λ i p l q. ap (λ (o : Option ℕ). bit_xor (received o) (at z p)) (E.reduced.seen i p l q).1 ∙ is i p l q) unused
 
@@ -119,16 +119,16 @@ module _ (m : CodeMeaning) (C : CodeLaws m) (cells : List (Option ℕ)) (s : ℕ
             sym (xor_twice (received (state p)) (at v p))
             ∙ ap (bit_xor (received (state p)))
             (only_corrects m.field.width (times m.field) T m.checks m.places (λ p j. m.entry j p) s state
-            (cell rows) (tail m.checks rows) (pivot_of pivots) E.reduced low full _ _ (word_corrects v V A) X p l)
+            e t pivot E.reduced low full _ _ (word_corrects v V A) X p l)
             ∙ xor_twice (received (state p)) (at z p)
 
-    -- a lost place f that no row is used for: a word that agrees for each element b, which it has there
-    module _ (f : ℕ) (within : f < m.places) (lost : state f ≡ None) (free : (i : ℕ) → i < m.checks → pivot_of pivots i ≡ Some f → ⊥)
-        (unused : Contradicted m.checks rows pivots false) (b : ℕ) (small : b < size m.field) where
+    -- a lost place f that no row is assigned to: a word that agrees for each element b, which it has there
+    module _ (f : ℕ) (within : f < m.places) (lost : state f ≡ None) (none : (i : ℕ) → i < m.checks → pivot i ≢ Some f)
+        (unused : Contradicted m.checks t pivot false) (b : ℕ) (small : b < size m.field) where
       choice : ℕ → ℕ
       choice =
           chosen m.field.width (times m.field) T m.checks m.places (λ p j. m.entry j p) s state
-          (cell rows) (tail m.checks rows) (pivot_of pivots) E.reduced low f within lost free b small
+          e t pivot E.reduced low f within lost none b small
 
       abbrev word_with : List ℕ
       word_with = build m.places (λ p. bit_xor (received (state p)) (choice p))
@@ -146,7 +146,7 @@ module _ (m : CodeMeaning) (C : CodeLaws m) (cells : List (Option ℕ)) (s : ℕ
       with_corrects =
           correction_same choice _ (λ p l. sym (back p l))
           (chosen_corrects m.field.width (times m.field) T m.checks m.places (λ p j. m.entry j p) s state
-          (cell rows) (tail m.checks rows) (pivot_of pivots) E.reduced low f within lost free b small unused)
+          e t pivot E.reduced low f within lost none b small unused)
 
       with_there : at word_with f ≡ b
       unfolding choice
@@ -154,20 +154,20 @@ module _ (m : CodeMeaning) (C : CodeLaws m) (cells : List (Option ℕ)) (s : ℕ
           at_build m.places (λ p. bit_xor (received (state p)) (choice p)) f within
           ∙ ap (λ (o : Option ℕ). bit_xor (received o) (choice f)) lost
           ∙ chosen_there m.field.width (times m.field) T m.checks m.places (λ p j. m.entry j p) s state
-          (cell rows) (tail m.checks rows) (pivot_of pivots) E.reduced low f within lost free b small
+          e t pivot E.reduced low f within lost none b small
 
-    pub agree_several : Contradicted m.checks rows pivots false → Determined m.checks state m.places pivots false → TwoWords m (holding state)
-    agree_several unused (f, within, lost, free) =
+    pub agree_several : Contradicted m.checks t pivot false → (f : ℕ) → Determined m.checks state m.places pivot (Some f) → TwoWords m (holding state)
+    agree_several unused f (within, lost, none) =
         let zero = zero_below m.field C.field_laws in
         let one = one_below m.field C.field_laws in
         record {
-          one = word_with f within lost free unused 0 zero;
-          other = word_with f within lost free unused 1 one;
-          one_word = corrected_word _ (long_with f within lost free unused 0 zero) (with_corrects f within lost free unused 0 zero);
-          other_word = corrected_word _ (long_with f within lost free unused 1 one) (with_corrects f within lost free unused 1 one);
-          one_agrees = corrected_agrees _ (long_with f within lost free unused 0 zero) (with_corrects f within lost free unused 0 zero);
-          other_agrees = corrected_agrees _ (long_with f within lost free unused 1 one) (with_corrects f within lost free unused 1 one);
+          one = word_with f within lost none unused 0 zero;
+          other = word_with f within lost none unused 1 one;
+          one_word = corrected_word _ (long_with f within lost none unused 0 zero) (with_corrects f within lost none unused 0 zero);
+          other_word = corrected_word _ (long_with f within lost none unused 1 one) (with_corrects f within lost none unused 1 one);
+          one_agrees = corrected_agrees _ (long_with f within lost none unused 0 zero) (with_corrects f within lost none unused 0 zero);
+          other_agrees = corrected_agrees _ (long_with f within lost none unused 1 one) (with_corrects f within lost none unused 1 one);
           apart = λ q.
-              let no : ◌≡◌ {A = ℕ} 0 1 = sym (with_there f within lost free unused 0 zero) ∙ ap (λ (w : List ℕ). at w f) q ∙ with_there f within lost free unused 1 one in
+              let no : ◌≡◌ {A = ℕ} 0 1 = sym (with_there f within lost none unused 0 zero) ∙ ap (λ (w : List ℕ). at w f) q ∙ with_there f within lost none unused 1 one in
               omega arith;
         }

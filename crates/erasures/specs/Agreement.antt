@@ -1,5 +1,5 @@
 -- What the places of a code hold, and the words that agree with it.
-use Rattle.std.specs.Prelude.{◌≡◌, ℕ, cond, List, Some, None, Option, ◌≢◌, nat_lt, slice_index_or}
+use Rattle.std.specs.Prelude.{◌≡◌, ℕ, if◌then◌else◌, List, Some, None, Option, ◌≢◌, nat_lt, slice_index_or}
 use Rattle.fields.specs.Meaning.{size}
 use Rattle.codes.specs.Words.{CodeMeaning, Word, at}
 
@@ -10,11 +10,11 @@ State = ℕ → Option ℕ
 -- a symbol counts where it is one of the q elements
 abbrev pub element_of : ℕ → Option ℕ → Option ℕ
 element_of q None = None
-element_of q (Some v) = cond (nat_lt v q) (Some v) None
+element_of q (Some v) = if nat_lt v q then Some v else None
 
 -- A cell is held where its place is one of the code's and its symbol one of the field's, and lost otherwise.
 unfoldable pub held : CodeMeaning → List (Option ℕ) → State
-held m cells p = cond (nat_lt p m.places) (element_of (size m.field) (slice_index_or cells p None)) None
+held m cells p = if nat_lt p m.places then element_of (size m.field) (slice_index_or cells p None) else None
 
 -- which place holds which symbol
 abbrev pub Holding : Type 1
@@ -49,4 +49,4 @@ pub record TwoWords (m : CodeMeaning) (holds : Holding) : Type 0 where
   pub other_word : Word m other
   pub one_agrees : Agrees holds one
   pub other_agrees : Agrees holds other
-  pub apart : one ≡ other → ⊥
+  pub apart : one ≢ other

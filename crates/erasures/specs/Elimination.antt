@@ -1,5 +1,5 @@
 -- Elimination over combined checks: what its rows are, and what each step keeps.
-use Rattle.std.specs.Prelude.{◌≡◌, ℕ, ◌%◌, ◌^◌, ◌<◌, Bool, true, false, ◌⊎◌, List, [], length, Some, None, Option, ◌≢◌, bit_xor, slice_index, slice_index_or}
+use Rattle.std.specs.Prelude.{◌≡◌, ℕ, ◌%◌, ◌^◌, ◌<◌, Bool, true, false, ◌⊎◌, List, Some, None, Option, ◌≢◌, bit_xor, slice_index, unwrap_or}
 use Rattle.fields.specs.Meaning.{FieldMeaning, size}
 use Rattle.codes.specs.Words.{sum}
 use Rattle.erasures.specs.Agreement.{State}
@@ -23,22 +23,18 @@ dot mul r row column = sum r (λ j. mul (row j) (column j))
 abbrev pub Elements : FieldMeaning → List ℕ → Type 0
 Elements f xs = (k : ℕ) → slice_index xs k < size f
 
--- the element of row i at j
-abbrev pub cell : List (List ℕ) → ℕ → ℕ → ℕ
-cell rows i j = slice_index (slice_index_or rows i []) j
-
 -- x is zero at every held place of the first n, and its sum with the checks' columns h is the syndrome s
 pub record Corrects (width : ℕ) (mul : ℕ → ℕ → ℕ) (r n : ℕ) (h : ℕ → ℕ → ℕ) (s : ℕ → ℕ) (state : State) (x : ℕ → ℕ) : Type 0 where
   pub elements : (p : ℕ) → p < n → x p < 2 ^ width
   pub zero_where_held : (p v : ℕ) → p < n → state p ≡ Some v → x p ≡ 0
   pub gives : (j : ℕ) → j < r → sum n (λ p. mul (h p j) (x p)) ≡ s j
 
--- no row is used for the place p, and the rows that are used for none are zero there
+-- no row is assigned to the place p, and the rows that are assigned to none are zero there
 abbrev pub Undetermined : (ℕ → ℕ → ℕ) → ℕ → (ℕ → ℕ → ℕ) → (ℕ → ℕ → ℕ) → (ℕ → Option ℕ) → ℕ → Type 0
 Undetermined mul r h e pivot p = (i : ℕ) → i < r → (pivot i ≢ Some p) × (pivot i ≡ None → dot mul r (e i) (h p) ≡ 0)
 
 -- Row i of e is a combination of the checks, whose columns are h, t i is the same combination of the syndrome s, and
--- pivot i is the place that row i is used for. So it is when the first `done` places are gone through.
+-- pivot i is the place that row i is assigned to. So it is when the first `done` places are gone through.
 pub record Reduced (width : ℕ) (mul : ℕ → ℕ → ℕ) (r : ℕ) (h : ℕ → ℕ → ℕ) (s : ℕ → ℕ) (state : State) (done : ℕ) (e : ℕ → ℕ → ℕ) (t : ℕ → ℕ) (pivot : ℕ → Option ℕ) : Type 0 where
   -- no column but the zero column is zero in every combination
   pub regular : (y : ℕ → ℕ) → ((j : ℕ) → j < r → y j < 2 ^ width) → ((i : ℕ) → i < r → dot mul r (e i) y ≡ 0) → (j : ℕ) → j < r → y j ≡ 0
@@ -59,29 +55,19 @@ pub record Pivoted (mul : ℕ → ℕ → ℕ) (r i by : ℕ) (c : ℕ → ℕ) 
 
 -- what is received at a place: its symbol, and 0 where it is lost
 abbrev pub received : Option ℕ → ℕ
-received (Some v) = v
-received None = 0
+received symbol = unwrap_or symbol 0
 
--- the combination of the syndrome stands behind the r elements of its row
-abbrev pub tail : ℕ → List (List ℕ) → ℕ → ℕ
-tail r rows i = cell rows i r
+-- whether every lost place below `done` has a row, or there is one that has none
+abbrev pub Determined : ℕ → State → ℕ → (ℕ → Option ℕ) → Option ℕ → Type 0
+Determined r state done pivot None = (p : ℕ) → p < done → state p ≡ None → (i : ℕ) × (i < r) × (pivot i ≡ Some p)
+Determined r state done pivot (Some p) = (p < done) × (state p ≡ None) × ((i : ℕ) → i < r → pivot i ≢ Some p)
 
-abbrev pub pivot_of : List (Option ℕ) → ℕ → Option ℕ
-pivot_of pivots i = slice_index_or pivots i None
+-- the elimination when the first `done` places are gone through; `undetermined` is a lost place that has no row, if there is one
+pub record Eliminated (f : FieldMeaning) (r : ℕ) (h : ℕ → ℕ → ℕ) (s : ℕ → ℕ) (state : State) (done : ℕ) (e : ℕ → ℕ → ℕ) (t : ℕ → ℕ) (pivot : ℕ → Option ℕ) (undetermined : Option ℕ) : Type 0 where
+  pub reduced : Reduced f.width (times f) r h s state done e t pivot
+  pub lost : Determined r state done pivot undetermined
 
--- whether every lost place below `done` has a row, or one has none
-abbrev pub Determined : ℕ → State → ℕ → List (Option ℕ) → Bool → Type 0
-Determined r state done pivots true = (p : ℕ) → p < done → state p ≡ None → (i : ℕ) × (i < r) × (pivot_of pivots i ≡ Some p)
-Determined r state done pivots false = (p : ℕ) × (p < done) × (state p ≡ None) × ((i : ℕ) → i < r → pivot_of pivots i ≢ Some p)
-
--- the elimination when the first `done` places are gone through
-pub record Eliminated (f : FieldMeaning) (r : ℕ) (h : ℕ → ℕ → ℕ) (s : ℕ → ℕ) (state : State) (done : ℕ) (rows : List (List ℕ)) (pivots : List (Option ℕ)) (determined : Bool) : Type 0 where
-  pub reduced : Reduced f.width (times f) r h s state done (cell rows) (tail r rows) (pivot_of pivots)
-  pub elements : (i k : ℕ) → cell rows i k < size f
-  pub long : length pivots ≡ r
-  pub lost : Determined r state done pivots determined
-
--- whether a row that is used for no place has a sum other than 0
-abbrev pub Contradicted : ℕ → List (List ℕ) → List (Option ℕ) → Bool → Type 0
-Contradicted r rows pivots true = (i : ℕ) × (i < r) × (pivot_of pivots i ≡ None) × (tail r rows i ≢ 0)
-Contradicted r rows pivots false = (i : ℕ) → i < r → pivot_of pivots i ≡ None → tail r rows i ≡ 0
+-- whether a row that is assigned to no place has a sum other than 0
+abbrev pub Contradicted : ℕ → (ℕ → ℕ) → (ℕ → Option ℕ) → Bool → Type 0
+Contradicted r t pivot true = (i : ℕ) × (i < r) × (pivot i ≡ None) × (t i ≢ 0)
+Contradicted r t pivot false = (i : ℕ) → i < r → pivot i ≡ None → t i ≡ 0

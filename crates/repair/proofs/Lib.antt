@@ -1,1 +1,5 @@
-mod Deciding
+pub mod Lists
+pub mod Starting
+pub mod Filling
+pub mod Stepping
+pub mod Deciding

@@ -1,66 +1,77 @@
-//! Answers of a field and of a code where they cannot be refusals.
-ghost use Rattle.std.specs.Prelude.{◌≡◌, ◌<◌, ◌≢◌};
+//! Answers of a code and of its field where they cannot be refusals, and lists of them.
+ghost use Rattle.std.specs.Prelude.{◌≡◌, ℕ, ◌<◌, ◌≤◌, ◌≢◌, bit_xor, length, slice_index};
 ghost use Rattle.fields.specs.Meaning.{size};
-ghost use Rattle.erasures.specs.Elimination.{times};
+ghost use Rattle.erasures.specs.Elimination.{times, dot, Elements};
 
 use codes::Code;
 use fields::Field;
 
 /// The product of two elements.
-pub(crate) fn product<F: Field>(field: &F, x: u16, y: u16) -> u16
-    requires { (x < size (F.Field.meaning field.now)) × (y < size (F.Field.meaning field.now)) }
-    ensures value { result ≡ times (F.Field.meaning field.now) x y }
-    ensures element { result < size (F.Field.meaning field.now) }
+pub(crate) fn product<C: Code>(code: &C, x: u16, y: u16) -> u16
+    requires left { x < size (C.meaning code.now).field }
+    requires right { y < size (C.meaning code.now).field }
+    ensures value { result ≡ times (C.meaning code.now).field x y }
+    ensures element { result < size (C.meaning code.now).field }
 {
-    match field.product(x, y) {
-        Ok(z) => z,
-        Err(_) => unreachable(),
-    }
+    code.field().product(x, y).unwrap()
+}
+
+/// The product of two elements, added to a third.
+pub(crate) fn mul_add<C: Code>(code: &C, x: u16, y: u16, to: u16) -> u16
+    requires left { x < size (C.meaning code.now).field }
+    requires right { y < size (C.meaning code.now).field }
+    requires to { to < size (C.meaning code.now).field }
+    ensures value { result ≡ bit_xor to (times (C.meaning code.now).field x y) }
+    ensures element { result < size (C.meaning code.now).field }
+{
+    to ^ product(code, x, y)
 }
 
 /// The inverse of an element other than 0.
-pub(crate) fn inverse<F: Field>(field: &F, x: u16) -> u16
-    requires { (x < size (F.Field.meaning field.now)) × ((x ≢ 0)) }
-    ensures value { times (F.Field.meaning field.now) result x ≡ 1 }
-    ensures element { result < size (F.Field.meaning field.now) }
+pub(crate) fn inverse<C: Code>(code: &C, x: u16) -> u16
+    requires element { x < size (C.meaning code.now).field }
+    requires nonzero { x ≢ 0 }
+    ensures value { times (C.meaning code.now).field result x ≡ 1 }
+    ensures element { result < size (C.meaning code.now).field }
 {
-    match field.inverse(x) {
-        Ok(z) => z,
-        Err(_) => unreachable(),
-    }
+    code.field().inverse(x).unwrap()
 }
 
 /// What a check multiplies the symbol at a place by.
 pub(crate) fn entry<C: Code>(code: &C, check: usize, place: usize) -> u16
-    requires { (check < (C.Lawful.meaning code.now).checks) × (place < (C.Lawful.meaning code.now).places) }
-    ensures value { result ≡ (C.Lawful.meaning code.now).entry check place }
-    ensures element { result < size (C.Lawful.meaning code.now).field }
+    requires check { check < (C.meaning code.now).checks }
+    requires place { place < (C.meaning code.now).places }
+    ensures value { result ≡ (C.meaning code.now).entry check place }
+    ensures element { result < size (C.meaning code.now).field }
 {
-    match code.entry(check, place) {
-        Ok(x) => x,
-        Err(_) => unreachable(),
+    code.entry(check, place).unwrap()
+}
+
+/// What a function gives at the first `count` indices, and zeros behind them.
+pub(crate) fn tabulate<const N: usize, F: Fn(usize) -> u16>(count: usize, at: F) -> [u16; N]
+    requires room { count ≤ N }
+    requires callable { (i : ℕ) → i < count → F.pre at i }
+    ensures given { (i : ℕ) → i < count → F.post at i (slice_index result i) }
+    ensures zeros { (i : ℕ) → count ≤ i → slice_index result i ≡ 0 }
+{
+    let mut values = [0; N];
+    for (i, x) in values[..count].iter_mut().enumerate() {
+        *x = at(i);
     }
+    values
 }
 
-/// The product of two elements of a code's field.
-pub(crate) fn code_product<C: Code>(code: &C, x: u16, y: u16) -> u16
-    requires { (x < size (C.Lawful.meaning code.now).field) × (y < size (C.Lawful.meaning code.now).field) }
-    ensures value { result ≡ times (C.Lawful.meaning code.now).field x y }
-    ensures element { result < size (C.Lawful.meaning code.now).field }
+/// The sum of the products of elements, two by two, as many as `right` has.
+pub(crate) fn dot_product<C: Code>(code: &C, left: &[u16], right: &[u16]) -> u16
+    requires long { length right.now ≤ length left.now }
+    requires left { Elements (C.meaning code.now).field left.now }
+    requires right { Elements (C.meaning code.now).field right.now }
+    ensures element { result < size (C.meaning code.now).field }
+    ensures value { result ≡ dot (times (C.meaning code.now).field) (length right.now) (λ j. slice_index left.now j) (λ j. slice_index right.now j) }
 {
-    product(code.field(), x, y)
-}
-
-/// q, how many elements a field has.
-fn size_of<F: Field>(field: &F) -> u16
-    ensures { result ≡ size (F.Field.meaning field.now) }
-{
-    1 << field.width()
-}
-
-/// How many elements a code's field has.
-pub(crate) fn field_size<C: Code>(code: &C) -> u16
-    ensures { result ≡ size (C.Lawful.meaning code.now).field }
-{
-    size_of(code.field())
+    let mut total = 0;
+    for (x, y) in left.iter().zip(right) {
+        total = mul_add(code, *x, *y, total);
+    }
+    total
 }

@@ -1,136 +1,143 @@
 //! Elimination over combinations of the checks: a row for each lost place for which there is one.
-ghost use Rattle.std.specs.Prelude.{◌≡◌, ℕ, ◌<◌, ◌≤◌, length, Some, None, MatchOption, ◌≢◌, slice_index};
-ghost use Rattle.fields.specs.Meaning.{size};
+ghost use Rattle.std.specs.Prelude.{◌≡◌, ℕ, ◌<◌, Some, None, MatchOption, ◌≢◌, slice_index};
 ghost use Rattle.erasures.specs.Agreement.{held};
-ghost use Rattle.erasures.specs.Elimination.{Elements, pivot_of, Eliminated, Contradicted};
-ghost use Rattle.erasures.specs.Rows.{RowElements, Used, Filled};
+ghost use Rattle.erasures.specs.Elimination.{times, dot, Elements, Eliminated, Contradicted};
+ghost use Rattle.repair.specs.Rows.{syndrome_of, row_at, cell, sum_at, place_at, AllElements, UnitRow, Cleared, RowPivoted, Used, Filled};
 
-use super::arithmetic::entry;
+use super::arithmetic::{dot_product, entry, inverse, tabulate};
 use super::cells::symbol;
-use super::rows::{Row, combine, pivot, start};
+use super::rows::Row;
 use codes::Code;
-use fields::Field;
-
-/// The first row that is used for no place and is not 0 in a column.
-fn pivot_row(pivots: &[Option<usize>], column: &[u16]) -> Option<usize>
-    requires { length pivots.now ≤ length column.now }
-    ensures { MatchOption result ((i : ℕ) → i < length pivots.now → pivot_of pivots.now i ≡ None → slice_index column.now i ≡ 0) (λ i. (i < length pivots.now) × (pivot_of pivots.now i ≡ None) × (slice_index column.now i ≢ 0)) }
-{
-    for i in 0..pivots.len() {
-        if pivots[i].is_none() && column[i] != 0 {
-            return Some(i);
-        }
-    }
-    None
-}
-
-/// Uses a row for a place, given its column of entries, and says whether there was one.
-fn use_row<F: Field>(
-    field: &F,
-    rows: &mut [Row],
-    pivots: &mut [Option<usize>],
-    entries: &[u16],
-    place: usize,
-) -> bool
-    requires few { length rows.old ≤ 96 }
-    requires pivots { length pivots.old ≡ length rows.old }
-    requires long { length entries.now ≡ length rows.old }
-    requires rows { RowElements (F.Field.meaning field.now) rows.old }
-    requires entries { Elements (F.Field.meaning field.now) entries.now }
-    ensures elements { RowElements (F.Field.meaning field.now) rows.new }
-    ensures used { Used (F.Field.meaning field.now) (λ j. slice_index entries.now j) place rows.old pivots.old rows.new pivots.new result }
-{
-    let column = combine(field, rows, entries);
-    match pivot_row(pivots, &column) {
-        Some(at) => {
-            pivot(field, rows, at, &column);
-            pivots[at] = Some(place);
-            true
-        }
-        None => false,
-    }
-}
+use std::array;
 
 /// The entries of the checks at a place.
-fn entries<C: Code>(code: &C, place: usize) -> [u16; 96]
-    requires { place < (C.Lawful.meaning code.now).places }
-    ensures elements { Elements (C.Lawful.meaning code.now).field result }
-    ensures value { (j : ℕ) → j < (C.Lawful.meaning code.now).checks → slice_index result j ≡ (C.Lawful.meaning code.now).entry j place }
+fn entries_at<C: Code>(code: &C, place: usize) -> [u16; 96]
+    requires { place < (C.meaning code.now).places }
+    ensures elements { Elements (C.meaning code.now).field result }
+    ensures value { (j : ℕ) → j < (C.meaning code.now).checks → slice_index result j ≡ (C.meaning code.now).entry j place }
 {
-    let mut column = [0; 96];
-    for j in 0..code.checks() {
-        column[j] = entry(code, j, place);
-    }
-    column
+    tabulate(code.checks(), |check| entry(code, check, place))
 }
 
-/// Uses a row for a lost place, and says whether there was one.
-fn use_row_for<C: Code>(
-    code: &C,
-    rows: &mut [Row],
-    pivots: &mut [Option<usize>],
-    place: usize,
-) -> bool
-    requires rows { length rows.old ≡ (C.Lawful.meaning code.now).checks }
-    requires pivots { length pivots.old ≡ length rows.old }
-    requires place { place < (C.Lawful.meaning code.now).places }
-    requires elements { RowElements (C.Lawful.meaning code.now).field rows.old }
-    ensures elements { RowElements (C.Lawful.meaning code.now).field rows.new }
-    ensures used { Used (C.Lawful.meaning code.now).field (λ j. (C.Lawful.meaning code.now).entry j place) place rows.old pivots.old rows.new pivots.new result }
+/// The checks themselves, with what each sums to.
+fn start<C: Code>(code: &C, syndrome: &[u16; 96]) -> [Row; 96]
+    requires { Elements (C.meaning code.now).field syndrome.now }
+    ensures elements { AllElements (C.meaning code.now).field result }
+    ensures rows { (i : ℕ) → i < 96 → UnitRow i (slice_index syndrome.now i) (row_at result i) }
 {
-    let column = entries(code, place);
-    use_row(code.field(), rows, pivots, &column[0..rows.len()], place)
+    array::from_fn(|check| Row::unit(check, syndrome[check]))
 }
 
-/// Goes through the places, and says whether every lost one has a row.
-pub(crate) fn eliminate<C: Code>(
-    code: &C,
-    cells: &[Option<u16>],
-    syndrome: &[u16],
-    rows: &mut [Row],
-    pivots: &mut [Option<usize>],
-) -> bool
-    requires rows { length rows.old ≡ (C.Lawful.meaning code.now).checks }
-    requires syndrome { length syndrome.now ≡ (C.Lawful.meaning code.now).checks }
-    requires elements { Elements (C.Lawful.meaning code.now).field syndrome.now }
-    requires pivots { length pivots.old ≡ (C.Lawful.meaning code.now).checks }
-    requires none { (i : ℕ) → i < (C.Lawful.meaning code.now).checks → pivot_of pivots.old i ≡ None }
-    ensures { Eliminated (C.Lawful.meaning code.now).field (C.Lawful.meaning code.now).checks (λ p j. (C.Lawful.meaning code.now).entry j p) (λ j. slice_index syndrome.now j) (held (C.Lawful.meaning code.now) cells.now) (C.Lawful.meaning code.now).places rows.new pivots.new result }
+/// What each row makes of the column of a place.
+fn column_of<C: Code>(code: &C, rows: &[Row; 96], place: usize) -> [u16; 96]
+    requires elements { AllElements (C.meaning code.now).field rows.now }
+    requires place { place < (C.meaning code.now).places }
+    ensures elements { Elements (C.meaning code.now).field result }
+    ensures value { (i : ℕ) → i < (C.meaning code.now).checks → slice_index result i ≡ dot (times (C.meaning code.now).field) (C.meaning code.now).checks (cell rows.now i) (λ j. (C.meaning code.now).entry j place) }
 {
-    start(rows, syndrome);
-    let mut determined = true;
-    for p in 0..code.places() {
-        match symbol(code, cells, p) {
-            Some(_) => {}
-            None => determined &= use_row_for(code, rows, pivots, p),
+    let count = code.checks();
+    let entries = entries_at(code, place);
+    let entries = &entries[..count];
+    tabulate(count, |i| dot_product(code, &rows[i].combination, entries))
+}
+
+/// The first row that is assigned to no place and is not 0 in a column.
+fn unused_row<C: Code>(code: &C, rows: &[Row; 96], column: &[u16; 96]) -> Option<usize>
+    ensures { MatchOption result ((i : ℕ) → i < (C.meaning code.now).checks → place_at rows.now i ≡ None → slice_index column.now i ≡ 0) (λ i. (i < (C.meaning code.now).checks) × (place_at rows.now i ≡ None) × (slice_index column.now i ≢ 0)) }
+{
+    rows[..code.checks()]
+        .iter()
+        .zip(column)
+        .position(|(row, x)| row.place.is_none() && *x != 0)
+}
+
+/// Adds row `at`, times its number in `column`, to each other row.
+fn clear<C: Code>(code: &C, rows: &mut [Row; 96], at: usize, column: &[u16; 96])
+    requires at { at < (C.meaning code.now).checks }
+    requires elements { AllElements (C.meaning code.now).field rows.old }
+    requires column { Elements (C.meaning code.now).field column.now }
+    ensures elements { AllElements (C.meaning code.now).field rows.new }
+    ensures cleared { Cleared (C.meaning code.now).field (C.meaning code.now).checks at (λ i. slice_index column.now i) rows.old rows.new }
+{
+    let pivot_row = rows[at];
+    for (i, row) in rows[..code.checks()].iter_mut().enumerate() {
+        if i != at {
+            row.add(code, &pivot_row, column[i]);
         }
     }
-    determined
 }
 
-/// Whether a row that is used for no place has a sum other than 0 behind it.
-pub(crate) fn contradicted(rows: &[Row], pivots: &[Option<usize>]) -> bool
-    requires { (length rows.now ≤ 96) × (length pivots.now ≡ length rows.now) }
-    ensures { Contradicted (length rows.now) rows.now pivots.now result }
+/// Assigns row `at` to a place, and makes the place's column 1 there and 0 at each other row.
+fn pivot<C: Code>(code: &C, rows: &mut [Row; 96], at: usize, place: usize, column: &[u16; 96])
+    requires at { at < (C.meaning code.now).checks }
+    requires elements { AllElements (C.meaning code.now).field rows.old }
+    requires column { Elements (C.meaning code.now).field column.now }
+    requires nonzero { slice_index column.now at ≢ 0 }
+    ensures elements { AllElements (C.meaning code.now).field rows.new }
+    ensures pivoted { RowPivoted (C.meaning code.now).field (C.meaning code.now).checks at (λ i. slice_index column.now i) place rows.old rows.new }
 {
-    for i in 0..rows.len() {
-        if pivots[i].is_none() && rows[i][rows.len()] != 0 {
-            return true;
+    let by = inverse(code, column[at]);
+    rows[at].assign(code, by, place);
+    clear(code, rows, at, column);
+}
+
+/// Assigns a row to a lost place, and tells which, if one that is assigned to none yet sees the place.
+fn use_row<C: Code>(code: &C, rows: &mut [Row; 96], place: usize) -> Option<usize>
+    requires place { place < (C.meaning code.now).places }
+    requires elements { AllElements (C.meaning code.now).field rows.old }
+    ensures elements { AllElements (C.meaning code.now).field rows.new }
+    ensures used { Used (C.meaning code.now).field (C.meaning code.now).checks (λ j. (C.meaning code.now).entry j place) place rows.old rows.new result }
+{
+    let column = column_of(code, rows, place);
+    let at = unused_row(code, rows, &column)?;
+    pivot(code, rows, at, place, &column);
+    Some(at)
+}
+
+/// The elimination over a code's checks: a row for each check.
+#[derive(Drop)]
+pub(crate) struct Elimination {
+    rows: [Row; 96],
+    /// One lost place that no row is assigned to, if there is any: the elimination does not determine its symbol.
+    pub(crate) undetermined: Option<usize>,
+}
+
+impl Elimination {
+    /// Goes through the places, and assigns a row to each lost one for which there is one.
+    pub(crate) fn run<C: Code>(code: &C, cells: &[Option<u16>], syndrome: &[u16; 96]) -> Elimination
+        requires elements { Elements (C.meaning code.now).field syndrome.now }
+        requires syndrome { (j : ℕ) → j < (C.meaning code.now).checks → slice_index syndrome.now j ≡ syndrome_of (C.meaning code.now) (held (C.meaning code.now) cells.now) j }
+        ensures { Eliminated (C.meaning code.now).field (C.meaning code.now).checks (λ p j. (C.meaning code.now).entry j p) (syndrome_of (C.meaning code.now) (held (C.meaning code.now) cells.now)) (held (C.meaning code.now) cells.now) (C.meaning code.now).places (cell result.rows) (sum_at result.rows) (place_at result.rows) result.undetermined }
+    {
+        let mut rows = start(code, syndrome);
+        let mut undetermined = None;
+        for place in 0..code.places() {
+            if symbol(code, cells, place).is_none() && use_row(code, &mut rows, place).is_none() {
+                undetermined = Some(place);
+            }
         }
+        Elimination { rows, undetermined }
     }
-    false
-}
 
-/// Writes the number behind each row at the place that the row is used for.
-pub(crate) fn fill(rows: &[Row], pivots: &[Option<usize>], word: &mut [u16; 512])
-    requires few { (length rows.now ≤ 96) × (length pivots.now ≡ length rows.now) }
-    requires within { (i p : ℕ) → i < length rows.now → pivot_of pivots.now i ≡ Some p → p < 512 }
-    requires once { (i j p : ℕ) → i < length rows.now → j < length rows.now → pivot_of pivots.now i ≡ Some p → pivot_of pivots.now j ≡ Some p → i ≡ j }
-    ensures { Filled (length rows.now) rows.now pivots.now (length rows.now) word.old word.new }
-{
-    for i in 0..rows.len() {
-        if let Some(p) = pivots[i] {
-            word[p] = rows[i][rows.len()];
+    /// Whether a row that is assigned to no place has a sum other than 0.
+    pub(crate) fn contradicted<C: Code>(&self, code: &C) -> bool
+        ensures { Contradicted (C.meaning code.now).checks (sum_at self.now.rows) (place_at self.now.rows) result }
+    {
+        self.rows[..code.checks()]
+            .iter()
+            .any(|row| row.place.is_none() && row.sum != 0)
+    }
+
+    /// Writes the sum of each row at the place that the row is assigned to.
+    pub(crate) fn fill<C: Code>(&self, code: &C, word: &mut [u16; 512])
+        requires within { (i p : ℕ) → i < (C.meaning code.now).checks → place_at self.now.rows i ≡ Some p → p < 512 }
+        requires once { (i j p : ℕ) → i < (C.meaning code.now).checks → j < (C.meaning code.now).checks → place_at self.now.rows i ≡ Some p → place_at self.now.rows j ≡ Some p → i ≡ j }
+        ensures { Filled self.now.rows (C.meaning code.now).checks word.old word.new }
+    {
+        for row in &self.rows[..code.checks()] {
+            if let Some(place) = row.place {
+                word[place] = row.sum;
+            }
         }
     }
 }

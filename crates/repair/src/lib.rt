@@ -1,17 +1,16 @@
 //! Repair: which words of a code agree with what is held.
 #![tactic(auto)]
 
-ghost use Rattle.std.specs.Prelude.{◌≡◌, ℕ, ◌<◌, ◌≤◌, length, None, slice_index};
+ghost use Rattle.std.specs.Prelude.{◌≡◌, ℕ, ◌<◌, slice_index};
 ghost use Rattle.fields.specs.Meaning.{size};
 ghost use Rattle.codes.specs.Words.{sum};
 ghost use Rattle.erasures.specs.Agreement.{held, holding};
-ghost use Rattle.erasures.specs.Elimination.{times, Elements, received, pivot_of};
+ghost use Rattle.erasures.specs.Elimination.{times, Elements, received};
 ghost use Rattle.repair.specs.Verdicts.{Decides};
 
-use arithmetic::{code_product, entry};
+use arithmetic::{dot_product, entry, tabulate};
 use codes::Code;
-use elimination::{contradicted, eliminate, fill};
-use rows::Row;
+use elimination::Elimination;
 
 mod arithmetic;
 mod cells;
@@ -21,7 +20,7 @@ mod rows;
 pub use cells::symbol;
 
 /// How many words of a code agree with every held place.
-#[derive(Clone, Copy)]
+#[derive(Clone, Copy, PartialEq, Eq, Debug)]
 pub enum Verdict {
     /// No word agrees: there is nothing to repair to. A mend refuses this with 41.
     NoWord,
@@ -34,66 +33,50 @@ pub enum Verdict {
 
 /// The symbols that are held, and zeros where one is lost.
 fn receive<C: Code>(code: &C, cells: &[Option<u16>]) -> [u16; 512]
-    ensures { (p : ℕ) → slice_index result p ≡ received (held (C.Lawful.meaning code.now) cells.now p) }
+    ensures elements { Elements (C.meaning code.now).field result }
+    ensures value { (p : ℕ) → slice_index result p ≡ received (held (C.meaning code.now) cells.now p) }
 {
-    let mut word = [0; 512];
-    for p in 0..code.places() {
-        if let Some(value) = symbol(code, cells, p) {
-            word[p] = value;
-        }
-    }
-    word
+    tabulate(
+        code.places(),
+        |place| symbol(code, cells, place).unwrap_or(0),
+    )
 }
 
 /// What a check sums to.
 fn check_sum<C: Code>(code: &C, check: usize, word: &[u16; 512]) -> u16
-    requires check { check < (C.Lawful.meaning code.now).checks }
-    requires elements { Elements (C.Lawful.meaning code.now).field word.now }
-    ensures element { result < size (C.Lawful.meaning code.now).field }
-    ensures value { result ≡ sum (C.Lawful.meaning code.now).places (λ p. times (C.Lawful.meaning code.now).field ((C.Lawful.meaning code.now).entry check p) (slice_index word.now p)) }
+    requires check { check < (C.meaning code.now).checks }
+    requires elements { Elements (C.meaning code.now).field word.now }
+    ensures element { result < size (C.meaning code.now).field }
+    ensures value { result ≡ sum (C.meaning code.now).places (λ p. times (C.meaning code.now).field ((C.meaning code.now).entry check p) (slice_index word.now p)) }
 {
-    let mut total = 0;
-    for p in 0..code.places() {
-        total ^= code_product(code, entry(code, check, p), word[p]);
-    }
-    total
+    let count = code.places();
+    let entries: [u16; 512] = tabulate(count, |place| entry(code, check, place));
+    dot_product(code, &entries, &word[..count])
 }
 
 /// What each check sums to.
 fn syndrome<C: Code>(code: &C, word: &[u16; 512]) -> [u16; 96]
-    requires { Elements (C.Lawful.meaning code.now).field word.now }
-    ensures elements { Elements (C.Lawful.meaning code.now).field result }
-    ensures value { (j : ℕ) → j < (C.Lawful.meaning code.now).checks → slice_index result j ≡ sum (C.Lawful.meaning code.now).places (λ p. times (C.Lawful.meaning code.now).field ((C.Lawful.meaning code.now).entry j p) (slice_index word.now p)) }
+    requires { Elements (C.meaning code.now).field word.now }
+    ensures elements { Elements (C.meaning code.now).field result }
+    ensures value { (j : ℕ) → j < (C.meaning code.now).checks → slice_index result j ≡ sum (C.meaning code.now).places (λ p. times (C.meaning code.now).field ((C.meaning code.now).entry j p) (slice_index word.now p)) }
 {
-    let mut sums = [0; 96];
-    for j in 0..code.checks() {
-        sums[j] = check_sum(code, j, word);
-    }
-    sums
+    tabulate(code.checks(), |check| check_sum(code, check, word))
 }
 
-/// Decides in as many rows as the code has checks, none of them used for a place yet.
-fn decide<C: Code>(
-    code: &C,
-    cells: &[Option<u16>],
-    rows: &mut [Row],
-    pivots: &mut [Option<usize>],
-) -> Verdict
-    requires rows { length rows.old ≡ (C.Lawful.meaning code.now).checks }
-    requires pivots { length pivots.old ≡ (C.Lawful.meaning code.now).checks }
-    requires none { (i : ℕ) → i < (C.Lawful.meaning code.now).checks → pivot_of pivots.old i ≡ None }
-    ensures { Decides (C.Lawful.meaning code.now) (holding (held (C.Lawful.meaning code.now) cells.now)) result }
+/// Decides, given the symbols that are held, with zeros where one is lost.
+fn decide<C: Code>(code: &C, cells: &[Option<u16>], mut word: [u16; 512]) -> Verdict
+    requires elements { Elements (C.meaning code.now).field word }
+    requires received { (p : ℕ) → slice_index word p ≡ received (held (C.meaning code.now) cells.now p) }
+    ensures { Decides (C.meaning code.now) (holding (held (C.meaning code.now) cells.now)) result }
 {
-    let mut word = receive(code, cells);
-    let sums = syndrome(code, &word);
-    let determined = eliminate(code, cells, &sums[0..rows.len()], rows, pivots);
-    if contradicted(rows, pivots) {
+    let elimination = Elimination::run(code, cells, &syndrome(code, &word));
+    if elimination.contradicted(code) {
         return Verdict::NoWord;
     }
-    if !determined {
+    if elimination.undetermined.is_some() {
         return Verdict::SeveralWords;
     }
-    fill(rows, pivots, &mut word);
+    elimination.fill(code, &mut word);
     Verdict::OneWord(word)
 }
 
@@ -101,10 +84,7 @@ fn decide<C: Code>(
 /// is one. The cell of a place counts as held where the place is one of the code's and the symbol one of the field's, and
 /// as lost otherwise, also where there is no such cell.
 pub fn repair<C: Code>(code: &C, cells: &[Option<u16>]) -> Verdict
-    ensures { Decides (C.Lawful.meaning code.now) (holding (held (C.Lawful.meaning code.now) cells.now)) result }
+    ensures { Decides (C.meaning code.now) (holding (held (C.meaning code.now) cells.now)) result }
 {
-    let mut rows = [[0; 97]; 96];
-    let mut pivots = [None; 96];
-    let count = code.checks();
-    decide(code, cells, &mut rows[0..count], &mut pivots[0..count])
+    decide(code, cells, receive(code, cells))
 }

@@ -1,17 +1,21 @@
-use Rattle.std.proofs.Common.{ℕ, get_or, sym, refl, ap, ◌∙◌, ap₂, pow_pos}
-use lib.Bits.{bit_xor, xor_lt}
+use Rattle.std.proofs.Common.{refl, get_or, ◌∙◌, rules, arith}
 use Rattle.erasures.specs.Elimination.{times}
-use Rattle.erasures.proofs.Products.{sum_next}
+use Rattle.repair.proofs.Lists.{tabulated, dot_front}
 use Rattle.repair.proofs.check_sum.Goals as goal
 
-pub loop-p-init : goal.loop-p-init
-loop-p-init g c = (pow_pos (g.C.Lawful.meaning c.args.code.now).field.width, refl)
+pub dot_product-requires-clause-left : goal.dot_product-requires-clause-left
+dot_product-requires-clause-left g c =
+    let m = g.C.Code.meaning c.args.code.now in
+    let made = c.tabulate-entries in
+    (tabulated m.field made.result c.places-count.result m.places (m.entry c.args.check) c.places-count.ensures
+    (λ p l. let h = made.ensures.given p l in search rules) made.ensures.zeros).0
 
-pub loop-p-preserved : goal.loop-p-preserved
-loop-p-preserved g c =
-    let f = (g.C.Lawful.meaning c.args.code.now).field in
-    let product = c.code_product-total in (
-      xor_lt f.width c.loop-p.total product.result c.loop-p.invariant.0 product.ensures.element,
-      ap₂ bit_xor c.loop-p.invariant.1 (product.ensures.value ∙ ap (λ (x : ℕ). times f x (get_or c.args.word.now c.loop-p.p 0)) c.entry.ensures.value)
-          ∙ sym (sum_next c.loop-p.p _),
-    )
+pub returns-clause-value : goal.returns-clause-value
+returns-clause-value g c =
+    let m = g.C.Code.meaning c.args.code.now in
+    let few = (g.C.Code.lawful c.args.code.now).few_places in
+    let made = c.tabulate-entries in
+    let t = tabulated m.field made.result c.places-count.result m.places (m.entry c.args.check) c.places-count.ensures
+    (λ p l. let h = made.ensures.given p l in search rules) made.ensures.zeros in
+    c.dot_product.ensures.value
+    ∙ dot_front (times m.field) made.result c.args.word.now c.places-count.result m.places (m.entry c.args.check) (λ p. get_or c.args.word.now p 0) c.places-count.ensures (omega arith) t.1 (λ p l. refl)

@@ -1,17 +1,13 @@
-use Rattle.std.proofs.Common.{◌<◌, length, refl, ◌∙◌, arith, length-set}
-use Rattle.erasures.proofs.Rows.{elements_set, elements_zeros, filled_more}
+use Rattle.std.proofs.Common.{ℕ, get_or, rules}
+use Rattle.codes.specs.Words.{sum}
+use Rattle.erasures.specs.Elimination.{times}
+use Rattle.repair.proofs.Lists.{tabulated}
 use Rattle.repair.proofs.syndrome.Goals as goal
 
-pub loop-j-init : goal.loop-j-init
-loop-j-init g c = (elements_zeros (g.C.Lawful.meaning c.args.code.now).field 96, refl, λ i l. absurd (omega arith))
-
-pub loop-j-preserved : goal.loop-j-preserved
-loop-j-preserved g c =
-    let sums = c.loop-j.sums in
-    let j = c.loop-j.j in
-    let few = (g.C.Lawful.lawful c.args.code.now).few_checks in
-    let within : j < length sums = omega arith in (
-      elements_set (g.C.Lawful.meaning c.args.code.now).field sums j _ c.check_sum.ensures.element c.loop-j.invariant.0,
-      length-set sums j _ ∙ c.loop-j.invariant.1,
-      filled_more _ sums j _ within c.check_sum.ensures.value c.loop-j.invariant.2,
-    )
+pub returns : goal.returns
+returns g c =
+    let m = g.C.Code.meaning c.args.code.now in
+    let made = c.tabulate in
+    let check_sum = λ (j : ℕ). sum m.places (λ p. times m.field (m.entry j p) (get_or c.args.word.now p 0)) in
+    let t = tabulated m.field made.result c.checks.result m.checks check_sum c.checks.ensures (λ j l. let h = made.ensures.given j l in search rules) made.ensures.zeros in
+    record { elements = t.0; value = t.1 }

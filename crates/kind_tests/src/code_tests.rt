@@ -1,5 +1,5 @@
 //! Shapes, entries, generators and refusals of every kind of code.
-use super::reference::{Modular, Reference};
+use super::reference::{BIT, GF8, GF16, Reference};
 use array_codes::Array;
 use binary_fields::{Bit, Gf256, Table};
 use codes::Code;
@@ -9,24 +9,6 @@ use fields::Field;
 use parity_codes::Parity;
 use std::process::Abort;
 use std::test::Fail;
-
-const BIT: Modular = Modular {
-    width: 1,
-    modulus: 0b11,
-    c: 1,
-};
-
-const GF8: Modular = Modular {
-    width: 3,
-    modulus: 0b1011,
-    c: 1,
-};
-
-const GF16: Modular = Modular {
-    width: 4,
-    modulus: 0b10011,
-    c: 8,
-};
 
 /// n, r and k.
 fn check_shape<C: Code>(rt: &impl Abort, code: &C, n: usize, r: usize, k: usize) {
@@ -39,27 +21,43 @@ fn check_shape<C: Code>(rt: &impl Abort, code: &C, n: usize, r: usize, k: usize)
 /// The refusals at the least argument that draws them, and which comes first.
 fn check_refusals<C: Code>(rt: &impl Abort, code: &C) {
     let (n, r, k) = (code.places(), code.checks(), code.dimension());
-    let no_place: Result<u16, Fault> = Err(Fault::code(CodeCause::Place).at(n));
-    assert_eq!(rt; code.entry(r, n), Err(Fault::code(CodeCause::Check)));
-    assert_eq!(rt; code.place(n), Err(Fault::code(CodeCause::Place).at(n)));
-    assert_eq!(rt;
-        code.message_place(k),
-        Err(Fault::code(CodeCause::MessageIndex))
-    );
-    assert_eq!(rt;
-        code.generator(k, n),
-        Err(Fault::code(CodeCause::MessageIndex))
-    );
+    let no_place = Fault::from(CodeCause::Place);
+    let no_index = Fault::from(CodeCause::MessageIndex);
+    assert_eq!(rt; code.entry(r, n), Err(Fault::from(CodeCause::Check)));
+    assert_eq!(rt; code.check(r), Err(Fault::from(CodeCause::Check)));
+    assert_eq!(rt; code.place(n), Err(no_place.at(n)));
+    assert_eq!(rt; code.index(k), Err(no_index));
+    assert_eq!(rt; code.message_place(k), Err(no_index));
+    assert_eq!(rt; code.generator(k, n), Err(no_index));
     if r > 0 {
-        assert_eq!(rt; code.entry(0, n), no_place);
-        assert_eq!(rt;
-            code.entry(0, usize::MAX),
-            Err(Fault::code(CodeCause::Place).at(usize::MAX))
-        );
+        for p in [n, usize::MAX] {
+            assert_eq!(rt; code.entry(0, p), Err(no_place.at(p)));
+        }
     }
     if k > 0 {
-        assert_eq!(rt; code.generator(0, n), no_place);
+        assert_eq!(rt; code.generator(0, n), Err(no_place.at(n)));
     }
+}
+
+/// Every entry, and the numbers of the checks, places and message symbols themselves.
+fn check_entries<C: Code, E: Fn(usize, usize) -> Result<u16, Fail>>(
+    rt: &impl Abort,
+    code: &C,
+    expected: E,
+) -> Result<(), Fail>
+    requires { E.IsAlwaysCallable expected }
+{
+    for j in 0..code.checks() {
+        assert_eq!(rt; code.check(j), Ok(j));
+        for p in 0..code.places() {
+            assert_eq!(rt; code.place(p), Ok(p));
+            assert_eq!(rt; code.entry(j, p)?, expected(j, p)?);
+        }
+    }
+    for i in 0..code.dimension() {
+        assert_eq!(rt; code.index(i), Ok(i));
+    }
+    Ok(())
 }
 
 /// Check `j` of row `i` of the generator, with the reference's products.
@@ -87,44 +85,35 @@ fn check_generator<C: Code, R: Reference>(
             assert_eq!(rt; check_sum(code, reference, i, j)?, 0);
         }
         for l in 0..code.dimension() {
-            let unit = if l == i { 1 } else { 0 };
-            assert_eq!(rt; code.generator(i, code.message_place(l)?)?, unit);
+            assert_eq!(rt;
+                code.generator(i, code.message_place(l)?)?,
+                u16::from(l == i)
+            );
         }
     }
     Ok(())
 }
 
-/// The entry of the four times extended code over a field of q elements, from the reference's products and rolls.
-fn four_times_entry<R: Reference>(reference: &R, q: usize, check: usize, place: usize) -> u16 {
-    if place.saturating_add(1) >= q {
-        return if check == place.saturating_sub(q.saturating_sub(1)) {
-            1
-        } else {
-            0
-        };
+/// The entry of the four times extended code, from the reference's products and rolls.
+fn four_times_entry<R: Reference>(reference: &R, check: usize, place: usize) -> Result<u16, Fail> {
+    let points = usize::from(reference.size()).saturating_sub(1);
+    if place >= points {
+        return Ok(u16::from(check == place - points));
     }
-    let index = q.saturating_sub(2).saturating_sub(place).min(255);
-    let x = reference.roll(index as u16);
-    let mut power = 1;
-    for _k in 0..check {
-        power = reference.product(power, x);
-    }
-    power
+    let x = reference.roll(u16::try_from(points - 1 - place)?);
+    Ok(reference.power(x, check))
 }
 
+/// The four times extended code over a field.
 fn check_four_times<F: Field + Copy, R: Reference>(
     rt: &impl Abort,
     field: F,
     reference: &R,
 ) -> Result<(), Fail> {
-    let q = 1usize.wrapping_shl(u32::from(reference.width()));
+    let q = usize::from(reference.size());
     let code = FourTimes::over(field);
-    check_shape(rt, &code, q.saturating_add(3), 4, q.saturating_sub(1));
-    for j in 0..4 {
-        for p in 0..code.places() {
-            assert_eq!(rt; code.entry(j, p)?, four_times_entry(reference, q, j, p));
-        }
-    }
+    check_shape(rt, &code, q + 3, 4, q.saturating_sub(1));
+    check_entries(rt, &code, |j, p| four_times_entry(reference, j, p))?;
     assert_eq!(rt; code.erasures(), 3);
     check_generator(rt, &code, reference)?;
     check_refusals(rt, &code);
@@ -155,8 +144,7 @@ fn check_matrix<C: Code>(rt: &impl Abort, code: &C) -> Result<(), Fail> {
             assert_eq!(rt; code.entry(j, p)?, GF8.roll(*exponent));
         }
         for i in 0..4usize {
-            let unit = if i == j { 1 } else { 0 };
-            assert_eq!(rt; code.entry(j, i + 7)?, unit);
+            assert_eq!(rt; code.entry(j, i + 7)?, u16::from(i == j));
         }
     }
     Ok(())
@@ -167,6 +155,7 @@ fn matrix(rt: HostRuntime) -> Result<(), Fail> {
     check_matrix(&rt, &FourTimes::over(Table::Gf8))
 }
 
+/// The parity code of a length over a field.
 fn check_parity<F: Field + Copy, R: Reference>(
     rt: &impl Abort,
     field: F,
@@ -175,26 +164,9 @@ fn check_parity<F: Field + Copy, R: Reference>(
 ) -> Result<(), Fail> {
     let code = Parity::new(field, n)?;
     check_shape(rt, &code, n, 1, n.saturating_sub(1));
-    for p in 0..n {
-        assert_eq!(rt; code.entry(0, p)?, 1);
-    }
+    check_entries(rt, &code, |_, _| Ok(1))?;
     check_generator(rt, &code, reference)?;
     check_refusals(rt, &code);
-    Ok(())
-}
-
-fn refuse_length<F: Field + Copy>(rt: &impl Abort, field: F, length: usize) -> Result<(), Fail> {
-    match Parity::new(field, length) {
-        Ok(_) => Err(Fail::new("a length that is none")),
-        Err(fault) => {
-            assert_eq!(rt; fault, Fault::code(CodeCause::ParityLength));
-            Ok(())
-        },
-    }
-}
-
-fn longest<F: Field + Copy>(rt: &impl Abort, field: F) -> Result<(), Fail> {
-    check_shape(rt, &Parity::new(field, 512)?, 512, 1, 511);
     Ok(())
 }
 
@@ -204,17 +176,13 @@ fn parity(rt: HostRuntime) -> Result<(), Fail> {
     check_parity(&rt, Table::Gf8, &GF8, 6)?;
     check_parity(&rt, Table::Gf16, &GF16, 31)?;
     for length in [0, 1, 513, usize::MAX] {
-        refuse_length(&rt, Bit, length)?;
+        assert_eq!(rt;
+            Parity::new(Bit, length).err(),
+            Some(Fault::from(CodeCause::ParityLength))
+        );
     }
-    longest(&rt, Gf256)
-}
-
-/// The quotient and the remainder by a number that is not 0.
-fn divide(x: usize, by: usize) -> (usize, usize) {
-    if by == 0 {
-        return (0, x);
-    }
-    (x / by, x % by)
+    check_shape(&rt, &Parity::new(Gf256, 512)?, 512, 1, 511);
+    Ok(())
 }
 
 /// 2 to the power `b`.
@@ -230,18 +198,18 @@ fn array_entry<V: Code, R: Reference>(
     place: usize,
 ) -> Result<u16, Fail> {
     let w = usize::from(reference.width());
-    let (row, column) = divide(place, w.saturating_add(1));
-    if check < code.places() {
-        return Ok(if check == row { 1 } else { 0 });
-    }
+    let (row, column) = (place / (w + 1), place % (w + 1));
+    let Some(bit) = check.checked_sub(code.places()) else {
+        return Ok(u16::from(check == row));
+    };
     if column == w {
         return Ok(0);
     }
-    let (j, b) = divide(check.saturating_sub(code.places()), w);
-    let z = reference.product(code.entry(j, row)?, power_of_two(column));
-    Ok(if z & power_of_two(b) == 0 { 0 } else { 1 })
+    let z = reference.product(code.entry(bit / w, row)?, power_of_two(column));
+    Ok(u16::from(z & power_of_two(bit % w) != 0))
 }
 
+/// The array over a code.
 fn check_array<V: Code + Copy, R: Reference>(
     rt: &impl Abort,
     code: V,
@@ -249,11 +217,7 @@ fn check_array<V: Code + Copy, R: Reference>(
 ) -> Result<(), Fail> {
     let array = Array::over(code);
     array.fits()?;
-    for j in 0..array.checks() {
-        for p in 0..array.places() {
-            assert_eq!(rt; array.entry(j, p)?, array_entry(&code, reference, j, p)?);
-        }
-    }
+    check_entries(rt, &array, |j, p| array_entry(&code, reference, j, p))?;
     check_generator(rt, &array, &BIT)?;
     check_refusals(rt, &array);
     Ok(())
@@ -263,7 +227,7 @@ fn check_array<V: Code + Copy, R: Reference>(
 fn check_too_large<V: Code + Copy>(rt: &impl Abort, code: V) {
     let array = Array::over(code);
     check_shape(rt, &array, 0, 0, 0);
-    assert_eq!(rt; array.fits(), Err(Fault::code(CodeCause::ArraySize)));
+    assert_eq!(rt; array.fits(), Err(Fault::from(CodeCause::ArraySize)));
     check_refusals(rt, &array);
 }
 

@@ -1,5 +1,5 @@
 //! Tables of every product, inverse and roll, and of the refusals at their edges.
-use super::reference::{Modular, Reference, Tower};
+use super::reference::{BIT, GF8, GF16, GF256, Reference, Tower};
 use binary_fields::{Bit, Gf256, Table};
 use faults::{CodeCause, Fault, FieldCause, LineCause, SheetCause};
 use fields::Field;
@@ -7,14 +7,16 @@ use pair_fields::Pair;
 use std::process::Abort;
 use std::test::Fail;
 
+/// A refusal as a field answers it.
 fn refused(cause: FieldCause) -> Result<u16, Fault> {
-    Err(Fault::field(cause))
+    Err(Fault::from(cause))
 }
 
-/// Every sum and product of two of the `size` elements.
-fn check_products<F: Field, R: Reference>(rt: &impl Abort, field: &F, reference: &R, size: u16) {
-    for x in 0..size {
-        for y in 0..size {
+/// Every sum and product of two elements.
+fn check_products<F: Field, R: Reference>(rt: &impl Abort, field: &F, reference: &R) {
+    for x in 0..reference.size() {
+        assert_eq!(rt; field.element(x), Ok(x));
+        for y in 0..reference.size() {
             assert_eq!(rt; field.product(x, y), Ok(reference.product(x, y)));
             assert_eq!(rt; field.sum(x, y), Ok(x ^ y));
         }
@@ -26,10 +28,11 @@ fn check_inverses<F: Field, R: Reference>(
     rt: &impl Abort,
     field: &F,
     reference: &R,
-    size: u16,
 ) -> Result<(), Fail> {
+    let size = reference.size();
     for x in 1..size {
         let inverse = field.inverse(x)?;
+        assert_eq!(rt; field.nonzero(x), Ok(x));
         assert!(rt; inverse < size);
         assert_eq!(rt; reference.product(x, inverse), 1);
     }
@@ -44,15 +47,16 @@ fn check_rolls<F: Field, R: Reference>(
     rt: &impl Abort,
     field: &F,
     reference: &R,
-    size: u16,
 ) -> Result<(), Fail> {
+    let size = reference.size();
     let mut seen = [false; 256];
     for i in 0..size.saturating_sub(1) {
         let x = field.roll(i)?;
+        assert_eq!(rt; field.roll_index(i), Ok(i));
         assert_eq!(rt; x, reference.roll(i));
         assert!(rt; x > 0 && x < size && x < 256);
-        assert!(rt; !seen[x as usize]);
-        seen[x as usize] = true;
+        assert!(rt; !seen[usize::from(x)]);
+        seen[usize::from(x)] = true;
     }
     Ok(())
 }
@@ -60,20 +64,29 @@ fn check_rolls<F: Field, R: Reference>(
 /// The least operand that is refused, and the greatest that can be passed.
 fn check_refusals<F: Field>(rt: &impl Abort, field: &F, size: u16) {
     for x in [size, u16::MAX] {
-        assert_eq!(rt; field.sum(x, 0), refused(FieldCause::Operand));
-        assert_eq!(rt; field.sum(0, x), refused(FieldCause::Operand));
-        assert_eq!(rt; field.product(x, 0), refused(FieldCause::Operand));
-        assert_eq!(rt; field.product(0, x), refused(FieldCause::Operand));
-        assert_eq!(rt; field.inverse(x), refused(FieldCause::Operand));
+        for answer in [
+            field.sum(x, 0),
+            field.sum(0, x),
+            field.product(x, 0),
+            field.product(0, x),
+            field.inverse(x),
+            field.element(x),
+            field.nonzero(x),
+        ] {
+            assert_eq!(rt; answer, refused(FieldCause::Operand));
+        }
         assert_eq!(rt; field.roll(x), refused(FieldCause::Roll));
+        assert_eq!(rt; field.roll_index(x), refused(FieldCause::Roll));
     }
     assert_eq!(rt; field.inverse(0), refused(FieldCause::InverseOfZero));
+    assert_eq!(rt; field.nonzero(0), refused(FieldCause::InverseOfZero));
     assert_eq!(rt;
         field.roll(size.saturating_sub(1)),
         refused(FieldCause::Roll)
     );
 }
 
+/// A field against its reference.
 fn check_field<F: Field, R: Reference>(
     rt: &impl Abort,
     field: &F,
@@ -81,37 +94,13 @@ fn check_field<F: Field, R: Reference>(
 ) -> Result<(), Fail> {
     assert_eq!(rt; field.width(), reference.width());
     assert_eq!(rt; field.c(), reference.c());
-    let size = 1u16.wrapping_shl(u32::from(reference.width()));
-    check_products(rt, field, reference, size);
-    check_inverses(rt, field, reference, size)?;
-    check_rolls(rt, field, reference, size)?;
-    check_refusals(rt, field, size);
+    assert_eq!(rt; field.size(), usize::from(reference.size()));
+    check_products(rt, field, reference);
+    check_inverses(rt, field, reference)?;
+    check_rolls(rt, field, reference)?;
+    check_refusals(rt, field, reference.size());
     Ok(())
 }
-
-const BIT: Modular = Modular {
-    width: 1,
-    modulus: 0b11,
-    c: 1,
-};
-
-const GF8: Modular = Modular {
-    width: 3,
-    modulus: 0b1011,
-    c: 1,
-};
-
-const GF16: Modular = Modular {
-    width: 4,
-    modulus: 0b10011,
-    c: 8,
-};
-
-const GF256: Modular = Modular {
-    width: 8,
-    modulus: 0b100011101,
-    c: 32,
-};
 
 #[test]
 fn kinds(rt: HostRuntime) -> Result<(), Fail> {
@@ -142,11 +131,11 @@ fn doublings(rt: HostRuntime) {
     assert_eq!(rt; Pair::over(Pair::over(Bit)).doubles(), Ok(()));
     assert_eq!(rt;
         Pair::over(Gf256).doubles(),
-        Err(Fault::field(FieldCause::NoDoubling))
+        Err(Fault::from(FieldCause::NoDoubling))
     );
     assert_eq!(rt;
         Pair::over(Pair::over(Table::Gf8)).doubles(),
-        Err(Fault::field(FieldCause::NoDoubling))
+        Err(Fault::from(FieldCause::NoDoubling))
     );
 }
 
@@ -161,28 +150,17 @@ fn worked_products(rt: HostRuntime) {
 
 #[test]
 fn fault_lines(rt: HostRuntime) -> Result<(), Fail> {
-    let told = Fault::field(FieldCause::Operand).at(3);
+    let told = Fault::from(FieldCause::Operand).at(3);
     assert_eq!(rt; told.number(), 11);
     assert_eq!(rt; told.layer_name(), "field");
     assert_eq!(rt; told.place(), Some(3));
-    assert_eq!(rt;
-        format!(in rt.alloc(); "{told}")?.as_str(),
-        "no\tfield\t11\t3"
-    );
-    let large = Fault::code(CodeCause::ArraySize);
-    assert_eq!(rt;
-        format!(in rt.alloc(); "{large}")?.as_str(),
-        "no\tcode\t25\t-"
-    );
-    let several = Fault::sheet(SheetCause::SeveralWords);
-    assert_eq!(rt;
-        format!(in rt.alloc(); "{several}")?.as_str(),
-        "no\tsheet\t42\t-"
-    );
-    let letter = Fault::line(LineCause::NotANumber).at(2);
-    assert_eq!(rt;
-        format!(in rt.alloc(); "{letter}")?.as_str(),
-        "no\tline\t54\t2"
-    );
+    for (fault, line) in [
+        (told, "no\tfield\t11\t3"),
+        (Fault::from(CodeCause::ArraySize), "no\tcode\t25\t-"),
+        (Fault::from(SheetCause::SeveralWords), "no\tsheet\t42\t-"),
+        (Fault::from(LineCause::NotANumber).at(2), "no\tline\t54\t2"),
+    ] {
+        assert_eq!(rt; format!(in rt.alloc(); "{fault}")?.as_str(), line);
+    }
     Ok(())
 }

@@ -2,14 +2,27 @@
 
 /// A field by its width, its element c and its product; operands are elements.
 pub trait Reference {
+    /// How many bits an element has.
     fn width(&self) -> u8;
 
+    /// The element c.
     fn c(&self) -> u16;
 
+    /// The product of two elements.
     fn product(&self, x: u16, y: u16) -> u16;
 
     /// The element of number `i`, by the product alone.
     fn roll(&self, i: u16) -> u16;
+
+    /// How many elements there are.
+    fn size(&self) -> u16 {
+        1u16.wrapping_shl(u32::from(self.width()))
+    }
+
+    /// A power of `x`.
+    fn power(&self, x: u16, exponent: usize) -> u16 {
+        (0..exponent).fold(1, |power, _| self.product(power, x))
+    }
 }
 
 /// Polynomials with bits as coefficients, modulo one of them.
@@ -20,22 +33,45 @@ pub struct Modular {
     pub c: u16,
 }
 
+/// One bit.
+pub const BIT: Modular = Modular {
+    width: 1,
+    modulus: 0b11,
+    c: 1,
+};
+
+/// Modulo x³ + x + 1.
+pub const GF8: Modular = Modular {
+    width: 3,
+    modulus: 0b1011,
+    c: 1,
+};
+
+/// Modulo x⁴ + x + 1.
+pub const GF16: Modular = Modular {
+    width: 4,
+    modulus: 0b10011,
+    c: 8,
+};
+
+/// Modulo x⁸ + x⁴ + x³ + x² + 1.
+pub const GF256: Modular = Modular {
+    width: 8,
+    modulus: 0b100011101,
+    c: 32,
+};
+
 /// The sum of `x` times each term of `y`.
 fn carryless(x: u16, y: u16) -> u32 {
-    let mut sum: u32 = 0;
-    for i in 0..16u32 {
-        if u32::from(y).wrapping_shr(i) & 1 == 1 {
-            sum ^= u32::from(x).wrapping_shl(i);
-        }
-    }
-    sum
+    (0..16u32)
+        .filter(|i| y.wrapping_shr(*i) & 1 == 1)
+        .fold(0, |sum, i| sum ^ u32::from(x).wrapping_shl(i))
 }
 
 /// Long division from the highest term on; what is left has fewer than `width` terms.
 fn remainder(width: u8, modulus: u32, polynomial: u32) -> u16 {
     let mut rest = polynomial;
-    for k in 0..16u32 {
-        let shift = 15 - k;
+    for shift in (0..16u32).rev() {
         if rest.wrapping_shr(u32::from(width).wrapping_add(shift)) & 1 == 1 {
             rest ^= modulus.wrapping_shl(shift);
         }
@@ -57,11 +93,7 @@ impl Reference for Modular {
     }
 
     fn roll(&self, i: u16) -> u16 {
-        let mut power = 1;
-        for _k in 0..i {
-            power = self.product(power, 2);
-        }
-        power
+        self.power(2, usize::from(i))
     }
 }
 

@@ -1,5 +1,5 @@
+pub mod Products
 pub mod Lists
 pub mod Calls
 pub mod Words
 pub mod Refusals
-pub mod Demonstrations

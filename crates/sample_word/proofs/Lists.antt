@@ -1,17 +1,23 @@
--- A list that is written place by place.
-use Rattle.std.proofs.Common.{◌≡◌, ℕ, ◌+◌, ◌<◌, ◌≢◌, List, map, length, get_or, set, sym, ◌∙◌, arith, get_or-set_other, get_or-set_same, below_more}
+-- An array that a function makes of another.
+use Rattle.std.proofs.Common.{◌≡◌, ℕ, zero, suc, ◌+◌, ◌<◌, ◌≤◌, List, map, length, get_or, refl, sym, ap, ◌∙◌, subst, ⊎_elim, arith}
 use Rattle.std.proofs.lemmas.List.{ext_get_or, get_or-map, length-map}
+use Rattle.std.proofs.lemmas.Bool.{cases_eq}
+use denote.Param.Members.{Mut, Called}
+use Rattle.std.specs.Array.{MapsFrom, IsMapOf}
 
-pub written_more : {X : Type 0} (d : X) (f : ℕ → X) (xs : List X) (i : ℕ) (y : X) → i < length xs → ((k : ℕ) → k < i → get_or xs k d ≡ f k) → y ≡ f i
-    → (k : ℕ) → k < i + 1 → get_or (set xs i y) k d ≡ f k
-written_more d f xs i y l h e =
-    below_more (λ k. get_or (set xs i y) k d ≡ f k) i
-    (λ k m. let ne : k ≢ i = omega arith in get_or-set_other xs i k y d ne ∙ h k m)
-    (get_or-set_same xs i y d l ∙ e)
+-- a function that answers h of each item and is left as it was
+module _ {F A B : Type 0} (g : Mut F (A × Unit {0}) B) (h : A → B) (f : F) (step : (x : A) (y : B) (q : F) → Called g f (x, tt) y q → (y ≡ h x) × (q ≡ f)) (d : A) (e : B) (xs : List A) (ys : List B) where
+  each_mapped : (n i : ℕ) (p : F) → p ≡ f → MapsFrom g p xs ys i n → (k : ℕ) → i ≤ k → k < i + n → get_or ys k e ≡ h (get_or xs k d)
+  each_mapped zero i p same m k low high = absurd (omega arith)
+  each_mapped (suc n) i p same (q, x, y, ex, ey, called, rest) k low high =
+      let (gives, left) = step x y q (subst (λ (p : F). Called g p (x, tt) y q) same called) in
+      ⊎_elim
+      (λ at. ap (λ (k : ℕ). get_or ys k e) at ∙ ey.1 e ∙ gives ∙ ap h (sym (ex.1 d)) ∙ ap (λ (k : ℕ). h (get_or xs k d)) (sym at))
+      (λ ne. each_mapped n (i + 1) q left rest k (omega arith) (omega arith))
+      (cases_eq k i)
 
-pub written_all : {X Y : Type 0} (f : X → Y) (n : ℕ) (xs : List X) (ys : List Y) (d : X) (e : Y) → length xs ≡ n → length ys ≡ n
-    → ((k : ℕ) → k < n → get_or ys k e ≡ f (get_or xs k d)) → ys ≡ map f xs
-written_all f n xs ys d e lx ly h =
-    ext_get_or e ys (map f xs) (ly ∙ sym (length-map xs f ∙ lx)) (λ k l.
-    let hk : k < length xs = omega arith in
-    h k (omega arith) ∙ sym (get_or-map f xs k d e hk))
+  pub mapped : (n : ℕ) → length xs ≡ n → IsMapOf g f xs ys n → ys ≡ map h xs
+  mapped n l m =
+      ext_get_or e ys (map h xs) (m.long ∙ sym (length-map xs h ∙ l)) (λ k b.
+      let hk : k < length xs = omega (arith, m.long, l) in
+      each_mapped n 0 f refl m.each k (omega arith) (omega (arith, m.long)) ∙ sym (get_or-map h xs k d e hk))

@@ -1,15 +1,18 @@
 -- The word of a message, the bounds of its sums, and the erased symbol.
-use Rattle.std.proofs.Common.{◌≡◌, ℕ, ◌+◌, ◌<◌, ◌≤◌, List, [], ◌∷◌, map, length, set, Some, None, unwrap_or, sym, refl, ap, ◌∙◌, subst, ap₂, ⊎_elim, add-one, arith, lit<, get_or-set_other, get_or-set_same}
+use Rattle.std.proofs.Common.{◌≡◌, ℕ, ◌<◌, List, [], ◌∷◌, map, length, set, Some, None, Option, Ok, Result, unwrap_or, sym, refl, ap, ◌∙◌, subst, ap₂, ⊎_elim, lit<, get_or-set_other, get_or-set_same}
 use lib.Bits.{bit_xor, xor_self, xor_zero_r}
 use Rattle.std.proofs.lemmas.List.{map-set, set-get_or}
 use Rattle.std.proofs.lemmas.Bool.{cases_eq}
+use Rattle.faults.specs.declared.Fault.{Fault}
+use Rattle.fields.specs.Meaning.{FieldMeaning}
 use Rattle.fields.specs.Polynomials.{gf8}
 use Rattle.codes.specs.Words.{CodeLaws, Generates, Word, Message, Carries, sum, at}
 use Rattle.codes.specs.Systematic.{four_entry, four_generator}
 use Rattle.codes.proofs.Families.{four_times_laws, four_times_generates}
-use Rattle.codes.proofs.Sums.{sum_cong, sum_xor, sum_one, sum_below, length_build, at_build, same_at}
-use Rattle.sample_word.specs.Sample.{sample, Elements, symbol_of, encoded, row_sum, all_row_sums, erased, filled}
-use Rattle.sample_word.proofs.Calls.{Granted, sure, gf8_laws}
+use Rattle.codes.proofs.Sums.{sum_cong, sum_xor, sum_one, length_build, at_build, same_at}
+use Rattle.sample_word.specs.Sample.{sample, Elements, IsSumOfProducts, symbol_of, encoded, row_sum, all_row_sums, erased, filled}
+use Rattle.sample_word.proofs.Products.{granted, total_is}
+use Rattle.sample_word.proofs.Calls.{gf8_laws}
 
 pub sample_laws : CodeLaws sample
 sample_laws = four_times_laws gf8 gf8_laws
@@ -19,29 +22,12 @@ sample_generates = four_times_generates gf8 gf8_laws
 
 -- ---- the word of a message
 
--- what the first n symbols add to the symbol at place p
-unfoldable pub symbol_part : ℕ → List ℕ → ℕ → ℕ
-symbol_part n m p = sum n (λ i. gf8.product (at m i) (four_generator gf8 i p))
-
-pub symbol_first : (m : List ℕ) (p : ℕ) → 0 ≡ symbol_part 0 m p
-unfolding symbol_part
-symbol_first m p = refl
-
-pub symbol_next : (n : ℕ) (m : List ℕ) (p total x next : ℕ) → total ≡ symbol_part n m p → x ≡ four_generator gf8 n p
-    → Granted next (bit_xor total (gf8.product (at m n) x)) → next ≡ symbol_part (n + 1) m p
-unfolding symbol_part
-symbol_next n m p total x next e ex a =
-    sure next (bit_xor total (gf8.product (at m n) x)) a ∙ ap₂ bit_xor e (ap (gf8.product (at m n)) ex) ∙ rw add-one refl
-
-pub symbol_whole : (n : ℕ) (m : List ℕ) (p : ℕ) → n ≡ 7 → symbol_part n m p ≡ symbol_of m p
-unfolding symbol_part symbol_of
-symbol_whole n m p e = ap (λ (n : ℕ). sum n (λ i. gf8.product (at m i) (four_generator gf8 i p))) e
-
-pub symbol_below : (n : ℕ) (m : List ℕ) (p : ℕ) → Message sample m → n ≤ 7 → p < 11 → symbol_part n m p < 8
-unfolding symbol_part
-symbol_below n m p M h hp =
-    sum_below 3 n (λ i. gf8.product (at m i) (four_generator gf8 i p)) (λ i l.
-    gf8_laws.closed (at m i) (four_generator gf8 i p) (M.elements i (omega arith)) (sample_generates.elements i p (omega arith) hp))
+-- the sum of the products of a message and a column of the generator
+pub symbol_is : {f : FieldMeaning} {m : List ℕ} {p : ℕ} {Gives : ℕ → Result ℕ Fault → Type 0} {r : Result ℕ Fault} → IsSumOfProducts f m Gives r → f ≡ gf8 → Message sample m → p < 11
+    → ((i : ℕ) → i < 7 → (y : Result ℕ Fault) → Gives i y → y ≡ Ok (four_generator gf8 i p)) → r ≡ Ok (symbol_of m p)
+unfolding symbol_of
+symbol_is {f} {m} {p} {Gives} {r} h e M hp given =
+    total_is h gf8 7 (λ i. four_generator gf8 i p) e M.long (λ i l. (M.elements i l, sample_generates.elements i p l hp, given i l))
 
 -- the word that carries a message is the message times the generator
 times_generator : (m w : List ℕ) → Word sample w → Carries sample w m → w ≡ encoded m
@@ -65,37 +51,22 @@ laid_out m w l h = same_at 11 w (encoded m) l (length_build 11 (symbol_of m)) (�
 
 -- ---- the checks
 
--- what the first n symbols add to check j
-unfoldable pub row_part : ℕ → ℕ → List ℕ → ℕ
-row_part n j w = sum n (λ p. gf8.product (four_entry gf8 j p) (at w p))
-
-pub row_first : (j : ℕ) (w : List ℕ) → 0 ≡ row_part 0 j w
-unfolding row_part
-row_first j w = refl
-
-pub row_next : (n j : ℕ) (w : List ℕ) (total x next : ℕ) → total ≡ row_part n j w → x ≡ four_entry gf8 j n
-    → Granted next (bit_xor total (gf8.product x (at w n))) → next ≡ row_part (n + 1) j w
-unfolding row_part
-row_next n j w total x next e ex a =
-    sure next (bit_xor total (gf8.product x (at w n))) a ∙ ap₂ bit_xor e (ap (λ (y : ℕ). gf8.product y (at w n)) ex) ∙ rw add-one refl
-
-pub row_whole : (n j : ℕ) (w : List ℕ) → n ≡ 11 → row_part n j w ≡ row_sum j w
-unfolding row_part row_sum
-row_whole n j w e = ap (λ (n : ℕ). sum n (λ p. gf8.product (four_entry gf8 j p) (at w p))) e
-
-pub row_below : (n j : ℕ) (w : List ℕ) → Elements w → n ≤ 11 → j < 4 → row_part n j w < 8
-unfolding row_part
-row_below n j w E h hj =
-    sum_below 3 n (λ p. gf8.product (four_entry gf8 j p) (at w p)) (λ p l.
-    gf8_laws.closed (four_entry gf8 j p) (at w p) (sample_laws.entries j p hj (omega arith)) (E p (omega arith)))
+-- the sum of the products of a word and a row of entries
+pub row_sum_is : {f : FieldMeaning} {j : ℕ} {w : List ℕ} {Gives : ℕ → Result ℕ Fault → Type 0} {r : Result ℕ Fault} → IsSumOfProducts f w Gives r → f ≡ gf8 → Elements w → length w ≡ 11 → j < 4
+    → ((p : ℕ) → p < 11 → (y : Result ℕ Fault) → Gives p y → y ≡ Ok (four_entry gf8 j p)) → r ≡ Ok (row_sum j w)
+unfolding row_sum
+row_sum_is {f} {j} {w} {Gives} {r} h e E long hj given =
+    total_is h gf8 11 (four_entry gf8 j) e long (λ p l. (E p l, sample_laws.entries j p hj l, given p l))
+    ∙ ap Ok
+    (sum_cong 11 (λ p. gf8.product (at w p) (four_entry gf8 j p)) (λ p. gf8.product (four_entry gf8 j p) (at w p)) (λ p l.
+    gf8_laws.commutes (at w p) (four_entry gf8 j p) (E p l) (sample_laws.entries j p hj l)))
 
 row_zero : (j : ℕ) (w : List ℕ) → Word sample w → j < 4 → row_sum j w ≡ 0
 unfolding row_sum
 row_zero j w W h = W.checked j h
 
 pub rows_zero : (w : List ℕ) → Word sample w → all_row_sums w ≡ 0 ∷ 0 ∷ 0 ∷ 0 ∷ []
-rows_zero w W =
-    ap₂ ◌∷◌ (row_zero 0 w W (lit< tt)) (ap₂ ◌∷◌ (row_zero 1 w W (lit< tt)) (ap₂ ◌∷◌ (row_zero 2 w W (lit< tt)) (ap₂ ◌∷◌ (row_zero 3 w W (lit< tt)) refl)))
+rows_zero w W = rw (row_zero 0 w W (lit< tt), row_zero 1 w W (lit< tt), row_zero 2 w W (lit< tt), row_zero 3 w W (lit< tt)) refl
 
 -- ---- the erasure
 
@@ -143,3 +114,9 @@ module _ (w : List ℕ) (W : Word sample w) where
       ∙ sym (xor_zero_r (sum 11 (term (set w 3 0))))
       ∙ ap (bit_xor (sum 11 (term (set w 3 0)))) (sym (W.checked 0 (lit< tt)))
       ∙ one_term
+
+  pub restored_is : {held : List ℕ} {received : List (Option ℕ)} {symbol : ℕ} {restored : List ℕ} → received ≡ erased w → held ≡ filled 0 received
+      → ◌≡◌ {A = Result ℕ Fault} (Ok symbol) (Ok (row_sum 0 held)) → restored ≡ filled symbol received → restored ≡ w
+  restored_is {held} {received} {symbol} {restored} er eh es e =
+      let s : symbol ≡ at w 3 = granted symbol (row_sum 0 held) es ∙ ap (row_sum 0) (eh ∙ ap (filled 0) er) ∙ worked_back in
+      e ∙ ap (filled symbol) er ∙ filled_back symbol w s

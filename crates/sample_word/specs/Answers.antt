@@ -1,5 +1,5 @@
 -- What the calls answer, on good input and on bad.
-use Rattle.std.specs.Prelude.{ℕ, ◌+◌, Bool, cond, List, [], ◌∷◌, map, length, is_some, Ok, Err, Result, ◌==◌, nat_lt}
+use Rattle.std.specs.Prelude.{ℕ, ◌+◌, Bool, if◌then◌else◌, List, [], ◌∷◌, map, length, is_some, Ok, Err, Result, ◌==◌, nat_lt}
 use Rattle.std.specs.Option.{unwrap_or}
 use Rattle.faults.specs.declared.Fault.{Fault}
 use Rattle.faults.specs.Table.{no_element_at, wrong_length, not_a_number}
@@ -10,11 +10,11 @@ use Rattle.sample_word.specs.Numbers.{number_of}
 -- the answer where each item passes the test, and else the refusal of the first that fails, at its index, counted from i
 abbrev pub if_all : {X A : Type 0} → (X → Bool) → (ℕ → Fault) → ℕ → List X → Result A Fault → Result A Fault
 if_all test refusal i [] answer = answer
-if_all test refusal i (x ∷ xs) answer = cond (test x) (if_all test refusal (i + 1) xs answer) (Err (refusal i))
+if_all test refusal i (x ∷ xs) answer = if test x then if_all test refusal (i + 1) xs answer else Err (refusal i)
 
 -- the answer where there are seven, and else 33
 abbrev pub if_seven : {X A : Type 0} → List X → Result A Fault → Result A Fault
-if_seven xs answer = cond (length xs == 7) answer (Err wrong_length)
+if_seven xs answer = if length xs == 7 then answer else Err wrong_length
 
 -- the value where the call is granted, and its refusal where it is not
 abbrev pub then_give : {X A : Type 0} → Result X Fault → A → Result A Fault

@@ -1,5 +1,5 @@
 -- The numbers that texts of one to three decimal digits write.
-use Rattle.std.specs.Prelude.{ℕ, ◌+◌, ◌-◌, ◌*◌, Bool, cond, ◌&&◌, List, [], ◌∷◌, Some, None, Option, nat_le}
+use Rattle.std.specs.Prelude.{ℕ, ◌+◌, ◌-◌, ◌*◌, Bool, if◌then◌else◌, ◌&&◌, List, [], ◌∷◌, Some, None, Option, nat_le}
 
 -- a byte from low to high
 abbrev pub within : ℕ → ℕ → ℕ → Bool
@@ -16,7 +16,7 @@ leads = within 49 57
 -- one to three digits, with no 0 in front of another
 abbrev pub number_of : List ℕ → Option ℕ
 number_of [] = None
-number_of (a ∷ []) = cond (digit a) (Some (a - 48)) None
-number_of (a ∷ b ∷ []) = cond (leads a && digit b) (Some ((a - 48) * 10 + (b - 48))) None
-number_of (a ∷ b ∷ c ∷ []) = cond (leads a && (digit b && digit c)) (Some ((a - 48) * 100 + (b - 48) * 10 + (c - 48))) None
+number_of (a ∷ []) = if digit a then Some (a - 48) else None
+number_of (a ∷ b ∷ []) = if leads a && digit b then Some ((a - 48) * 10 + (b - 48)) else None
+number_of (a ∷ b ∷ c ∷ []) = if leads a && digit b && digit c then Some ((a - 48) * 100 + (b - 48) * 10 + (c - 48)) else None
 number_of (a ∷ b ∷ c ∷ d ∷ rest) = None

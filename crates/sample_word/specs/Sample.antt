@@ -1,7 +1,8 @@
 -- The four times extended code over GF(8): eleven places, of which seven are the message, and four checks.
-use Rattle.std.specs.Prelude.{ℕ, ◌<◌, List, [], ◌∷◌, map, Some, None, Option, slice_set}
+use Rattle.std.specs.Prelude.{◌≡◌, ℕ, ◌<◌, List, [], ◌∷◌, map, length, Some, None, Option, Ok, Result, slice_set}
 use Rattle.std.specs.Option.{unwrap_or}
-use Rattle.fields.specs.Meaning.{size}
+use Rattle.faults.specs.declared.Fault.{Fault}
+use Rattle.fields.specs.Meaning.{FieldMeaning, size}
 use Rattle.fields.specs.Polynomials.{gf8}
 use Rattle.codes.specs.Words.{CodeMeaning, sum, at}
 use Rattle.codes.specs.Arrays.{build}
@@ -13,6 +14,16 @@ sample = four_times gf8
 -- the symbol at every place is an element
 abbrev pub Elements : List ℕ → Type 0
 Elements w = (p : ℕ) → p < sample.places → at w p < size gf8
+
+-- over a field f the symbols xs and the coefficients g are elements, and what is given at the index of each symbol is its coefficient
+pub record Coefficients (f : FieldMeaning) (xs : List ℕ) (Gives : ℕ → Result ℕ Fault → Type 0) (g : ℕ → ℕ) : Type 0 where
+  pub symbols : (i : ℕ) → i < length xs → at xs i < size f
+  pub elements : (i : ℕ) → i < length xs → g i < size f
+  pub given : (i : ℕ) → i < length xs → (y : Result ℕ Fault) → Gives i y → y ≡ Ok (g i)
+
+-- r is the sum of the products of the symbols xs and the coefficients that are given for them
+abbrev pub IsSumOfProducts : FieldMeaning → List ℕ → (ℕ → Result ℕ Fault → Type 0) → Result ℕ Fault → Type 0
+IsSumOfProducts f xs Gives r = (g : ℕ → ℕ) → Coefficients f xs Gives g → r ≡ Ok (sum (length xs) (λ i. f.product (at xs i) (g i)))
 
 -- the symbol at place p of the word of a message: the message times a column of the generator
 unfoldable pub symbol_of : List ℕ → ℕ → ℕ

@@ -1,13 +1,12 @@
 //! Seven symbols of GF(8) laid out as a word of eleven of the four times extended code.
 #![tactic(auto)]
 
-ghost use Rattle.std.specs.Prelude.{◌≡◌, ◌<◌, map, length, IfOk, Ok, string_bytes, OnOk, bit_xor};
-ghost use Rattle.fields.specs.Polynomials.{gf8};
+ghost use Rattle.std.specs.Prelude.{◌≡◌, ℕ, ◌<◌, map, length, IfOk, MatchResult, Ok, Err, string_bytes};
 ghost use Rattle.binary_fields.specs.declared.table.Table.TheVariants.{Gf8};
 ghost use Rattle.codes.specs.Words.{Word, Message, Carries};
 ghost use Rattle.sample_word.specs.Answers.{accept_answer, encode_answer, demonstration, demonstrate_answer, numbers_answer, read_answer};
 ghost use Rattle.sample_word.specs.Numbers.{number_of};
-ghost use Rattle.sample_word.specs.Sample.{sample, Elements, symbol_of, encoded, row_sum, all_row_sums, erased, filled};
+ghost use Rattle.sample_word.specs.Sample.{sample, Elements, IsSumOfProducts, symbol_of, encoded, row_sum, all_row_sums, erased, filled};
 
 use binary_fields::Table;
 use codes::Code;
@@ -22,80 +21,88 @@ fn sample_code() -> FourTimes<Table>
     FourTimes::over(Table::Gf8)
 }
 
-/// A sum, and one more term: the product of two elements.
-fn add_product(code: &FourTimes<Table>, total: u16, x: u16, y: u16) -> Result<u16, Fault>
-    requires { (code.now.base ≡ Gf8) × ((total < 8) × ((x < 8) × (y < 8))) }
-    ensures { result ≡ Ok (bit_xor total (gf8.product x y)) }
-{
-    let field = code.field();
-    field.sum(total, field.product(x, y)?)
-}
-
-/// The symbol of a message's word at a place: the message times a column of the generator.
-fn symbol(code: &FourTimes<Table>, message: &[u16], place: usize) -> Result<u16, Fault>
-    requires { (code.now.base ≡ Gf8) × ((Message sample message.now) × (place < 11)) }
-    ensures { result ≡ Ok (symbol_of message.now place) }
+/// The sum of the products of symbols and their coefficients.
+fn sum_of_products<F: Field, C: Fn(usize) -> Result<u16, Fault>>(
+    field: &F,
+    symbols: &[u16],
+    coefficient: C,
+) -> Result<u16, Fault>
+    requires { (i : ℕ) → i < length symbols.now → C.pre coefficient i }
+    ensures { IsSumOfProducts (F.meaning field.now) symbols.now (C.post coefficient) result }
 {
     let mut total = 0;
-    for (i, x) in message.iter().enumerate() {
-        total = add_product(code, total, *x, code.generator(i, place)?)?;
+    for (i, x) in symbols.iter().enumerate() {
+        total = field.sum(total, field.product(*x, coefficient(i)?)?)?;
     }
     Ok(total)
 }
 
 /// What a check sums to.
-fn row_sum(code: &FourTimes<Table>, word: &[u16; 11], check: usize) -> Result<u16, Fault>
-    requires { (code.now.base ≡ Gf8) × ((Elements word.now) × (check < 4)) }
+fn row_sum(word: &[u16; 11], check: usize) -> Result<u16, Fault>
+    requires word { Elements word.now }
+    requires check { check < 4 }
     ensures { result ≡ Ok (row_sum check word.now) }
 {
-    let mut total = 0;
-    for (p, x) in word.iter().enumerate() {
-        total = add_product(code, total, code.entry(check, p)?, *x)?;
-    }
-    Ok(total)
+    let code = sample_code();
+    sum_of_products(code.field(), word, |p| code.entry(check, p))
 }
 
 /// What the four checks sum to.
-fn row_sums(code: &FourTimes<Table>, word: &[u16; 11]) -> Result<[u16; 4], Fault>
-    requires { (code.now.base ≡ Gf8) × (Elements word.now) }
+fn row_sums(word: &[u16; 11]) -> Result<[u16; 4], Fault>
+    requires { Elements word.now }
     ensures { result ≡ Ok (all_row_sums word.now) }
 {
     let mut sums = [0; 4];
     for (j, sum) in sums.iter_mut().enumerate() {
-        *sum = row_sum(code, word, j)?;
+        *sum = row_sum(word, j)?;
     }
     Ok(sums)
 }
 
-/// Whether a message has seven symbols, each an element; 33 where its length is another, 11 at the first that is none.
-fn accept(message: &[u16]) -> Result<(), Fault>
-    ensures value { result ≡ accept_answer message.now }
-    ensures message { OnOk result (Message sample message.now) }
-{
-    let code = sample_code();
-    if message.len() != code.dimension() {
-        return Err(Fault::sheet(SheetCause::Length));
-    }
-    for (i, x) in message.iter().enumerate() {
-        if let Err(fault) = code.field().sum(*x, 0) {
-            return Err(fault.at(i));
-        }
-    }
-    Ok(())
+/// Seven symbols that are accepted as a message.
+#[derive(Clone, Copy)]
+struct Accepted {
+    symbols: [u16; 7],
+    ghost message: { Message sample symbols },
 }
 
-/// The word of a message: the message times the generator.
-fn lay_out(message: &[u16]) -> Result<[u16; 11], Fault>
-    requires { Message sample message.now }
-    ensures value { result ≡ Ok (encoded message.now) }
-    ensures word { IfOk result (λ w. Word sample w × Carries sample w message.now) }
-{
-    let code = sample_code();
-    let mut word = [0; 11];
-    for (p, x) in word.iter_mut().enumerate() {
-        *x = symbol(&code, message, p)?;
+/// The message of seven symbols, each an element; 33 where there are not seven, 11 at the first that is none.
+impl TryFrom<&[u16]> for Accepted {
+    type Error = Fault;
+
+    ghost try_from_gives = { λ m r. MatchResult r (λ a. (accept_answer m.now ≡ Ok tt) × (a.symbols ≡ m.now)) (λ fault. accept_answer m.now ≡ Err fault) };
+
+    fn try_from(message: &[u16]) -> Result<Accepted, Fault> {
+        let symbols = message.as_array().ok_or(Fault::from(SheetCause::Length))?;
+        let code = sample_code();
+        for (i, x) in symbols.iter().enumerate() {
+            code.field().element(*x).map_err(|fault| fault.at(i))?;
+        }
+        Ok(Accepted { symbols: *symbols })
     }
-    Ok(word)
+}
+
+impl Accepted {
+    /// The symbol of the message's word at a place: the message times a column of the generator.
+    fn symbol(&self, place: usize) -> Result<u16, Fault>
+        requires { place < 11 }
+        ensures { result ≡ Ok (symbol_of self.now.symbols place) }
+    {
+        let code = sample_code();
+        sum_of_products(code.field(), &self.symbols, |i| code.generator(i, place))
+    }
+
+    /// The word of the message: the message times the generator.
+    fn lay_out(&self) -> Result<[u16; 11], Fault>
+        ensures value { result ≡ Ok (encoded self.now.symbols) }
+        ensures word { IfOk result (λ w. Word sample w × Carries sample w self.now.symbols) }
+    {
+        let mut word = [0; 11];
+        for (p, x) in word.iter_mut().enumerate() {
+            *x = self.symbol(p)?;
+        }
+        Ok(word)
+    }
 }
 
 /// The word of a message; 33 where it has not seven symbols, 11 at the first that is no element.
@@ -103,18 +110,14 @@ pub fn encode(message: &[u16]) -> Result<[u16; 11], Fault>
     ensures value { result ≡ encode_answer message.now }
     ensures word { IfOk result (λ w. Word sample w × Carries sample w message.now) }
 {
-    accept(message)?;
-    lay_out(message)
+    Accepted::try_from(message)?.lay_out()
 }
 
 /// What is received of a word whose symbol at place 3 is erased.
 fn erase(word: &[u16; 11]) -> [Option<u16>; 11]
     ensures { result ≡ erased word.now }
 {
-    let mut received = [None; 11];
-    for (p, x) in word.iter().enumerate() {
-        received[p] = Some(*x);
-    }
+    let mut received = word.map(Some);
     received[3] = None;
     received
 }
@@ -123,11 +126,7 @@ fn erase(word: &[u16; 11]) -> [Option<u16>; 11]
 fn fill(received: &[Option<u16>; 11], symbol: u16) -> [u16; 11]
     ensures { result ≡ filled symbol received.now }
 {
-    let mut word = [0; 11];
-    for (p, x) in received.iter().enumerate() {
-        word[p] = x.unwrap_or(symbol);
-    }
-    word
+    received.map(|x| x.unwrap_or(symbol))
 }
 
 /// A word, and what becomes of it when a symbol is erased and worked back.
@@ -148,16 +147,14 @@ fn work_back(word: [u16; 11]) -> Result<Demonstration, Fault>
     requires { Word sample word }
     ensures { result ≡ Ok (demonstration word) }
 {
-    let code = sample_code();
     let received = erase(&word);
-    let symbol = row_sum(&code, &fill(&received, 0), 0)?;
+    let symbol = row_sum(&fill(&received, 0), 0)?;
     let restored = fill(&received, symbol);
-    let row_sums = row_sums(&code, &restored)?;
     Ok(Demonstration {
         word,
         received,
         restored,
-        row_sums,
+        row_sums: row_sums(&restored)?,
     })
 }
 
@@ -185,16 +182,13 @@ fn number(text: &[u8]) -> Option<u16>
 }
 
 /// The numbers of seven texts; 54 at the first, counted from 1, that is no number.
-fn numbers(arguments: &[String]) -> Result<[u16; 7], Fault>
-    requires { length arguments.now ≡ 7 }
+fn numbers(arguments: &[String; 7]) -> Result<[u16; 7], Fault>
     ensures { result ≡ numbers_answer (map string_bytes arguments.now) }
 {
     let mut message = [0; 7];
     for (i, argument) in arguments.iter().enumerate() {
-        let Some(n) = number(argument.as_bytes()) else {
-            return Err(Fault::line(LineCause::NotANumber).at(i + 1));
-        };
-        message[i] = n;
+        let refusal = Fault::from(LineCause::NotANumber).at(i + 1);
+        message[i] = number(argument.as_bytes()).ok_or(refusal)?;
     }
     Ok(message)
 }
@@ -203,8 +197,6 @@ fn numbers(arguments: &[String]) -> Result<[u16; 7], Fault>
 pub fn read_message(arguments: &[String]) -> Result<[u16; 7], Fault>
     ensures { result ≡ read_answer string_bytes arguments.now }
 {
-    if arguments.len() != 7 {
-        return Err(Fault::sheet(SheetCause::Length));
-    }
+    let arguments = arguments.as_array().ok_or(Fault::from(SheetCause::Length))?;
     numbers(arguments)
 }

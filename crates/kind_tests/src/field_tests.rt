@@ -62,7 +62,8 @@ fn check_rolls<F: Field, R: Reference>(
 }
 
 /// The least operand that is refused, and the greatest that can be passed.
-fn check_refusals<F: Field>(rt: &impl Abort, field: &F, size: u16) {
+fn check_refusals<F: Field, R: Reference>(rt: &impl Abort, field: &F, reference: &R) {
+    let size = reference.size();
     for x in [size, u16::MAX] {
         for answer in [
             field.sum(x, 0),
@@ -98,7 +99,7 @@ fn check_field<F: Field, R: Reference>(
     check_products(rt, field, reference);
     check_inverses(rt, field, reference)?;
     check_rolls(rt, field, reference)?;
-    check_refusals(rt, field, reference.size());
+    check_refusals(rt, field, reference);
     Ok(())
 }
 

@@ -23,7 +23,7 @@ pub struct Parity<B> {
     ghost few: { length ≤ 512 },
 }
 
-// by hand: no derive writes the clone of a struct with a ghost field
+// by hand: no derive writes the clone of a generic struct with a ghost field
 impl<B: Copy> Clone for Parity<B> {
     ghost is_clone = { λ c d. d ≡ c };
 

@@ -1,11 +1,12 @@
 //! Shapes, entries, generators and refusals of every kind of code.
-use super::reference::{BIT, GF8, GF16, Reference};
+use super::reference::{BIT, GF8, GF16, Reference, Tower};
 use array_codes::Array;
 use binary_fields::{Bit, Gf256, Table};
 use codes::Code;
 use extended_codes::FourTimes;
 use faults::{CodeCause, Fault};
 use fields::Field;
+use pair_fields::Pair;
 use parity_codes::Parity;
 use std::process::Abort;
 use std::test::Fail;
@@ -125,6 +126,9 @@ fn four_times(rt: HostRuntime) -> Result<(), Fail> {
     check_four_times(&rt, Bit, &BIT)?;
     check_four_times(&rt, Table::Gf8, &GF8)?;
     check_four_times(&rt, Table::Gf16, &GF16)?;
+    let tower = Tower { base: BIT };
+    check_four_times(&rt, Pair::over(Bit), &tower)?;
+    check_four_times(&rt, Pair::over(Pair::over(Bit)), &Tower { base: tower })?;
     check_shape(&rt, &FourTimes::over(Gf256), 259, 4, 255);
     Ok(())
 }
@@ -175,6 +179,9 @@ fn parity(rt: HostRuntime) -> Result<(), Fail> {
     check_parity(&rt, Bit, &BIT, 2)?;
     check_parity(&rt, Table::Gf8, &GF8, 6)?;
     check_parity(&rt, Table::Gf16, &GF16, 31)?;
+    let tower = Tower { base: BIT };
+    check_parity(&rt, Pair::over(Bit), &tower, 7)?;
+    check_parity(&rt, Pair::over(Pair::over(Bit)), &Tower { base: tower }, 5)?;
     for length in [0, 1, 513, usize::MAX] {
         assert_eq!(rt;
             Parity::new(Bit, length).err(),
@@ -240,6 +247,8 @@ fn arrays(rt: HostRuntime) -> Result<(), Fail> {
     check_array(&rt, over8, &GF8)?;
     check_array(&rt, over16, &GF16)?;
     check_array(&rt, Array::over(FourTimes::over(Bit)), &BIT)?;
+    check_array(&rt, FourTimes::over(Pair::over(Bit)), &Tower { base: BIT })?;
+    check_array(&rt, Parity::new(Table::Gf8, 6)?, &GF8)?;
     check_too_large(&rt, FourTimes::over(Gf256));
     Ok(())
 }

@@ -246,9 +246,14 @@ fn arrays(rt: HostRuntime) -> Result<(), Fail> {
     check_shape(&rt, &Array::over(over16), 95, 35, 60);
     check_array(&rt, over8, &GF8)?;
     check_array(&rt, over16, &GF16)?;
+    check_array(&rt, FourTimes::over(Bit), &BIT)?;
     check_array(&rt, Array::over(FourTimes::over(Bit)), &BIT)?;
     check_array(&rt, FourTimes::over(Pair::over(Bit)), &Tower { base: BIT })?;
     check_array(&rt, Parity::new(Table::Gf8, 6)?, &GF8)?;
     check_too_large(&rt, FourTimes::over(Gf256));
+    check_shape(&rt, &Array::over(Parity::new(Bit, 95)?), 190, 96, 94);
+    check_too_large(&rt, Parity::new(Bit, 96)?);
+    check_shape(&rt, &Array::over(Parity::new(Gf256, 56)?), 504, 64, 440);
+    check_too_large(&rt, Parity::new(Gf256, 57)?);
     Ok(())
 }

@@ -42,7 +42,7 @@ fn with_zeros<const N: usize>(word: &[u16; N]) -> [u16; 512] {
 }
 
 /// What a repair should answer: how many words agree with the cells, all of which hold elements, and the word if it is one.
-pub fn decode<C: Code, const N: usize>(
+pub(crate) fn decode<C: Code, const N: usize>(
     code: &C,
     cells: &[Option<u16>; N],
 ) -> Result<Verdict, Fail> {

@@ -16,26 +16,22 @@ pub tabulated : (f : FieldMeaning) (xs : List ℕ) (n r : ℕ) (a : ℕ → ℕ)
 tabulated f xs n r a e given zeros = (elements_below f xs n (λ k l. (given k l).0) zeros, λ k l. (given k (omega arith)).1)
 
 -- one more product added
-pub dot_more : (mul : ℕ → ℕ → ℕ) (left right : List ℕ) (n m total x y : ℕ) → total ≡ dot mul n (λ j. get_or left j 0) (λ j. get_or right j 0)
-    → x ≡ get_or left n 0 → y ≡ get_or right n 0 → m ≡ n + 1
-    → bit_xor total (mul x y) ≡ dot mul m (λ j. get_or left j 0) (λ j. get_or right j 0)
-dot_more mul left right n m total x y so_far at_left at_right next =
-    ap₂ bit_xor so_far (ap₂ mul at_left at_right)
-    ∙ ap (λ (k : ℕ). dot mul k (λ j. get_or left j 0) (λ j. get_or right j 0)) (sym (next ∙ add-one n))
+pub dot_more : (mul : ℕ → ℕ → ℕ) (a b : ℕ → ℕ) (n total x y : ℕ) → total ≡ dot mul n a b → x ≡ a n → y ≡ b n → bit_xor total (mul x y) ≡ dot mul (n + 1) a b
+dot_more mul a b n total x y so_far at_left at_right =
+    ap₂ bit_xor so_far (ap₂ mul at_left at_right) ∙ ap (λ (k : ℕ). dot mul k a b) (sym (add-one n))
 
 pub zeros_at : (n j : ℕ) → ◌≡◌ {A = ℕ} (get_or (replicate n 0) j 0) 0
 zeros_at zero j = refl
 zeros_at (suc n) zero = refl
 zeros_at (suc n) (suc j) = zeros_at n j
 
--- only the first r numbers of each list count
-pub dot_front : (mul : ℕ → ℕ → ℕ) (left right : List ℕ) (n r : ℕ) (a b : ℕ → ℕ) → n ≡ r → r ≤ length right
-    → ((j : ℕ) → j < r → get_or left j 0 ≡ a j) → ((j : ℕ) → j < r → get_or right j 0 ≡ b j)
-    → dot mul (length (take n right)) (λ j. get_or left j 0) (λ j. get_or (take n right) j 0) ≡ dot mul r a b
-dot_front mul left right n r a b e room at_left at_right =
-    ap (λ (k : ℕ). dot mul k (λ j. get_or left j 0) (λ j. get_or (take n right) j 0)) long
-    ∙ sum_cong r (λ j. mul (get_or left j 0) (get_or (take n right) j 0)) (λ j. mul (a j) (b j))
-    (λ j l. let m : j < n = omega arith in ap₂ mul (at_left j l) (get_or-take n right j 0 m ∙ at_right j l))
+-- only the first r numbers of the list count
+pub dot_front : (mul : ℕ → ℕ → ℕ) (a : ℕ → ℕ) (right : List ℕ) (n r : ℕ) (b : ℕ → ℕ) → n ≡ r → r ≤ length right → ((j : ℕ) → j < r → get_or right j 0 ≡ b j)
+    → dot mul (length (take n right)) a (λ j. get_or (take n right) j 0) ≡ dot mul r a b
+dot_front mul a right n r b e room at_right =
+    ap (λ (k : ℕ). dot mul k a (λ j. get_or (take n right) j 0)) long
+    ∙ sum_cong r (λ j. mul (a j) (get_or (take n right) j 0)) (λ j. mul (a j) (b j))
+    (λ j l. let m : j < n = omega arith in ap (mul (a j)) (get_or-take n right j 0 m ∙ at_right j l))
   where
     long : length (take n right) ≡ r
     long = simp length-take (omega arith)

@@ -61,17 +61,17 @@ pub(crate) fn tabulate<const N: usize, F: Fn(usize) -> u16>(count: usize, at: F)
     values
 }
 
-/// The sum of the products of elements, two by two, as many as `right` has.
-pub(crate) fn dot_product<C: Code>(code: &C, left: &[u16], right: &[u16]) -> u16
-    requires long { length right.now ≤ length left.now }
-    requires left { Elements (C.meaning code.now).field left.now }
+/// The sum of the products of elements and what a function gives at their indices.
+pub(crate) fn dot_product<C: Code, F: Fn(usize) -> u16>(code: &C, left: F, right: &[u16]) -> u16
+    requires callable { (j : ℕ) → j < length right.now → F.pre left j }
+    requires left { (j x : ℕ) → j < length right.now → F.post left j x → x < size (C.meaning code.now).field }
     requires right { Elements (C.meaning code.now).field right.now }
     ensures element { result < size (C.meaning code.now).field }
-    ensures value { result ≡ dot (times (C.meaning code.now).field) (length right.now) (λ j. slice_index left.now j) (λ j. slice_index right.now j) }
+    ensures value { (a : ℕ → ℕ) → ((j x : ℕ) → j < length right.now → F.post left j x → x ≡ a j) → result ≡ dot (times (C.meaning code.now).field) (length right.now) a (λ j. slice_index right.now j) }
 {
     let mut total = 0;
-    for (x, y) in left.iter().zip(right) {
-        total = mul_add(code, *x, *y, total);
+    for (j, x) in right.iter().enumerate() {
+        total = mul_add(code, left(j), *x, total);
     }
     total
 }

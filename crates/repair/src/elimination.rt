@@ -1,58 +1,65 @@
 //! Elimination over combinations of the checks: a row for each lost place for which there is one.
-ghost use Rattle.std.specs.Prelude.{◌≡◌, ℕ, ◌<◌, Some, None, MatchOption, ◌≢◌, slice_index};
+ghost use Rattle.std.specs.Prelude.{◌≡◌, ℕ, ◌<◌, ◌≤◌, Some, None, MatchOption, ◌≢◌, slice_index};
+ghost use Rattle.fields.specs.Meaning.{FieldMeaning};
 ghost use Rattle.erasures.specs.Agreement.{held};
 ghost use Rattle.erasures.specs.Elimination.{times, dot, Elements, Eliminated, Contradicted};
 ghost use Rattle.repair.specs.Rows.{syndrome_of, row_at, cell, sum_at, place_at, AllElements, UnitRow, Cleared, RowPivoted, Used, Filled};
 
-use super::arithmetic::{dot_product, entry, inverse, tabulate};
+use super::arithmetic::{entry, inverse, tabulate};
 use super::cells::symbol;
-use super::rows::Row;
+use super::rows::{EMPTY, Row};
 use codes::Code;
-use std::array;
 
 /// The entries of the checks at a place.
-fn entries_at<C: Code>(code: &C, place: usize) -> [u16; 96]
-    requires { place < (C.meaning code.now).places }
+fn entries_at<C: Code>(code: &C, count: usize, place: usize) -> [u16; 96]
+    requires count { count ≡ (C.meaning code.now).checks }
+    requires place { place < (C.meaning code.now).places }
     ensures elements { Elements (C.meaning code.now).field result }
     ensures value { (j : ℕ) → j < (C.meaning code.now).checks → slice_index result j ≡ (C.meaning code.now).entry j place }
 {
-    tabulate(code.checks(), |check| entry(code, check, place))
+    tabulate(count, |check| entry(code, check, place))
 }
 
-/// The checks themselves, with what each sums to.
-fn start<C: Code>(code: &C, syndrome: &[u16; 96]) -> [Row; 96]
-    requires { Elements (C.meaning code.now).field syndrome.now }
-    ensures elements { AllElements (C.meaning code.now).field result }
-    ensures rows { (i : ℕ) → i < 96 → UnitRow i (slice_index syndrome.now i) (row_at result i) }
+/// Writes the checks themselves, with what each sums to.
+fn start<C: Code>(code: &C, count: usize, syndrome: &[u16; 96], rows: &mut [Row; 96])
+    requires count { count ≡ (C.meaning code.now).checks }
+    requires syndrome { Elements (C.meaning code.now).field syndrome.now }
+    requires elements { AllElements (C.meaning code.now).field rows.old }
+    ensures elements { AllElements (C.meaning code.now).field rows.new }
+    ensures units { (i : ℕ) → i < (C.meaning code.now).checks → UnitRow i (slice_index syndrome.now i) (row_at rows.new i) }
 {
-    array::from_fn(|check| Row::unit(check, syndrome[check]))
+    for (check, row) in rows[..count].iter_mut().enumerate() {
+        *row = Row::unit(check, syndrome[check]);
+    }
 }
 
 /// What each row makes of the column of a place.
-fn column_of<C: Code>(code: &C, rows: &[Row; 96], place: usize) -> [u16; 96]
+fn column_of<C: Code>(code: &C, rows: &[Row; 96], count: usize, place: usize) -> [u16; 96]
+    requires count { count ≡ (C.meaning code.now).checks }
     requires elements { AllElements (C.meaning code.now).field rows.now }
     requires place { place < (C.meaning code.now).places }
     ensures elements { Elements (C.meaning code.now).field result }
     ensures value { (i : ℕ) → i < (C.meaning code.now).checks → slice_index result i ≡ dot (times (C.meaning code.now).field) (C.meaning code.now).checks (cell rows.now i) (λ j. (C.meaning code.now).entry j place) }
 {
-    let count = code.checks();
-    let entries = entries_at(code, place);
+    let entries = entries_at(code, count, place);
     let entries = &entries[..count];
-    tabulate(count, |i| dot_product(code, &rows[i].combination, entries))
+    tabulate(count, |i| rows[i].times_column(code, entries))
 }
 
 /// The first row that is assigned to no place and is not 0 in a column.
-fn unused_row<C: Code>(code: &C, rows: &[Row; 96], column: &[u16; 96]) -> Option<usize>
-    ensures { MatchOption result ((i : ℕ) → i < (C.meaning code.now).checks → place_at rows.now i ≡ None → slice_index column.now i ≡ 0) (λ i. (i < (C.meaning code.now).checks) × (place_at rows.now i ≡ None) × (slice_index column.now i ≢ 0)) }
+fn unused_row(rows: &[Row; 96], count: usize, column: &[u16; 96]) -> Option<usize>
+    requires { count ≤ 96 }
+    ensures { MatchOption result ((i : ℕ) → i < count → place_at rows.now i ≡ None → slice_index column.now i ≡ 0) (λ i. (i < count) × (place_at rows.now i ≡ None) × (slice_index column.now i ≢ 0)) }
 {
-    rows[..code.checks()]
+    rows[..count]
         .iter()
         .zip(column)
         .position(|(row, x)| row.place.is_none() && *x != 0)
 }
 
 /// Adds row `at`, times its number in `column`, to each other row.
-fn clear<C: Code>(code: &C, rows: &mut [Row; 96], at: usize, column: &[u16; 96])
+fn clear<C: Code>(code: &C, rows: &mut [Row; 96], count: usize, at: usize, column: &[u16; 96])
+    requires count { count ≡ (C.meaning code.now).checks }
     requires at { at < (C.meaning code.now).checks }
     requires elements { AllElements (C.meaning code.now).field rows.old }
     requires column { Elements (C.meaning code.now).field column.now }
@@ -60,15 +67,23 @@ fn clear<C: Code>(code: &C, rows: &mut [Row; 96], at: usize, column: &[u16; 96])
     ensures cleared { Cleared (C.meaning code.now).field (C.meaning code.now).checks at (λ i. slice_index column.now i) rows.old rows.new }
 {
     let pivot_row = rows[at];
-    for (i, row) in rows[..code.checks()].iter_mut().enumerate() {
+    for (i, row) in rows[..count].iter_mut().enumerate() {
         if i != at {
-            row.add(code, &pivot_row, column[i]);
+            row.add(code, count, &pivot_row, column[i]);
         }
     }
 }
 
 /// Assigns row `at` to a place, and makes the place's column 1 there and 0 at each other row.
-fn pivot<C: Code>(code: &C, rows: &mut [Row; 96], at: usize, place: usize, column: &[u16; 96])
+fn pivot<C: Code>(
+    code: &C,
+    rows: &mut [Row; 96],
+    count: usize,
+    at: usize,
+    place: usize,
+    column: &[u16; 96],
+)
+    requires count { count ≡ (C.meaning code.now).checks }
     requires at { at < (C.meaning code.now).checks }
     requires elements { AllElements (C.meaning code.now).field rows.old }
     requires column { Elements (C.meaning code.now).field column.now }
@@ -77,20 +92,21 @@ fn pivot<C: Code>(code: &C, rows: &mut [Row; 96], at: usize, place: usize, colum
     ensures pivoted { RowPivoted (C.meaning code.now).field (C.meaning code.now).checks at (λ i. slice_index column.now i) place rows.old rows.new }
 {
     let by = inverse(code, column[at]);
-    rows[at].assign(code, by, place);
-    clear(code, rows, at, column);
+    rows[at].assign(code, count, by, place);
+    clear(code, rows, count, at, column);
 }
 
 /// Assigns a row to a lost place, and tells which, if one that is assigned to none yet sees the place.
-fn use_row<C: Code>(code: &C, rows: &mut [Row; 96], place: usize) -> Option<usize>
+fn use_row<C: Code>(code: &C, rows: &mut [Row; 96], count: usize, place: usize) -> Option<usize>
+    requires count { count ≡ (C.meaning code.now).checks }
     requires place { place < (C.meaning code.now).places }
     requires elements { AllElements (C.meaning code.now).field rows.old }
     ensures elements { AllElements (C.meaning code.now).field rows.new }
     ensures used { Used (C.meaning code.now).field (C.meaning code.now).checks (λ j. (C.meaning code.now).entry j place) place rows.old rows.new result }
 {
-    let column = column_of(code, rows, place);
-    let at = unused_row(code, rows, &column)?;
-    pivot(code, rows, at, place, &column);
+    let column = column_of(code, rows, count, place);
+    let at = unused_row(rows, count, &column)?;
+    pivot(code, rows, count, at, place, &column);
     Some(at)
 }
 
@@ -103,20 +119,35 @@ pub(crate) struct Elimination {
 }
 
 impl Elimination {
+    /// No rows yet, and no place gone through.
+    pub(crate) fn new() -> Elimination
+        ensures elements { (f : FieldMeaning) → AllElements f result.rows }
+        ensures undetermined { result.undetermined ≡ None }
+    {
+        Elimination {
+            rows: [EMPTY; 96],
+            undetermined: None,
+        }
+    }
+
     /// Goes through the places, and assigns a row to each lost one for which there is one.
-    pub(crate) fn run<C: Code>(code: &C, cells: &[Option<u16>], syndrome: &[u16; 96]) -> Elimination
+    pub(crate) fn run<C: Code>(&mut self, code: &C, cells: &[Option<u16>], syndrome: &[u16; 96])
+        requires rows { AllElements (C.meaning code.now).field self.old.rows }
+        requires undetermined { self.old.undetermined ≡ None }
         requires elements { Elements (C.meaning code.now).field syndrome.now }
         requires syndrome { (j : ℕ) → j < (C.meaning code.now).checks → slice_index syndrome.now j ≡ syndrome_of (C.meaning code.now) (held (C.meaning code.now) cells.now) j }
-        ensures { Eliminated (C.meaning code.now).field (C.meaning code.now).checks (λ p j. (C.meaning code.now).entry j p) (syndrome_of (C.meaning code.now) (held (C.meaning code.now) cells.now)) (held (C.meaning code.now) cells.now) (C.meaning code.now).places (cell result.rows) (sum_at result.rows) (place_at result.rows) result.undetermined }
+        ensures eliminated { Eliminated (C.meaning code.now).field (C.meaning code.now).checks (λ p j. (C.meaning code.now).entry j p) (syndrome_of (C.meaning code.now) (held (C.meaning code.now) cells.now)) (held (C.meaning code.now) cells.now) (C.meaning code.now).places (cell self.new.rows) (sum_at self.new.rows) (place_at self.new.rows) self.new.undetermined }
+        ensures elements { AllElements (C.meaning code.now).field self.new.rows }
     {
-        let mut rows = start(code, syndrome);
-        let mut undetermined = None;
+        let count = code.checks();
+        start(code, count, syndrome, &mut self.rows);
         for place in 0..code.places() {
-            if symbol(code, cells, place).is_none() && use_row(code, &mut rows, place).is_none() {
-                undetermined = Some(place);
+            if symbol(code, cells, place).is_none()
+                && use_row(code, &mut self.rows, count, place).is_none()
+            {
+                self.undetermined = Some(place);
             }
         }
-        Elimination { rows, undetermined }
     }
 
     /// Whether a row that is assigned to no place has a sum other than 0.

@@ -49,9 +49,11 @@ fn check_sum<C: Code>(code: &C, check: usize, word: &[u16; 512]) -> u16
     ensures element { result < size (C.meaning code.now).field }
     ensures value { result ≡ sum (C.meaning code.now).places (λ p. times (C.meaning code.now).field ((C.meaning code.now).entry check p) (slice_index word.now p)) }
 {
-    let count = code.places();
-    let entries: [u16; 512] = tabulate(count, |place| entry(code, check, place));
-    dot_product(code, &entries, &word[..count])
+    dot_product(
+        code,
+        |place| entry(code, check, place),
+        &word[..code.places()],
+    )
 }
 
 /// What each check sums to.
@@ -69,7 +71,8 @@ fn decide<C: Code>(code: &C, cells: &[Option<u16>], mut word: [u16; 512]) -> Ver
     requires received { (p : ℕ) → slice_index word p ≡ received (held (C.meaning code.now) cells.now p) }
     ensures { Decides (C.meaning code.now) (holding (held (C.meaning code.now) cells.now)) result }
 {
-    let elimination = Elimination::run(code, cells, &syndrome(code, &word));
+    let mut elimination = Elimination::new();
+    elimination.run(code, cells, &syndrome(code, &word));
     if elimination.contradicted(code) {
         return Verdict::NoWord;
     }

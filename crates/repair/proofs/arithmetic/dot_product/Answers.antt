@@ -1,22 +1,21 @@
-use Rattle.std.proofs.Common.{ℕ, Bor, length}
-use Rattle.std.proofs.lemmas.List.{length_push}
-use Rattle.std.proofs.lemmas.Slice.Zip.{zip_turn}
-use Rattle.erasures.specs.Elimination.{times}
+use Rattle.std.proofs.Common.{◌≡◌, ℕ, length, get_or, refl, subst, arith}
+use Rattle.erasures.specs.Elimination.{times, dot}
 use Rattle.repair.proofs.Lists.{dot_more}
 use Rattle.repair.proofs.arithmetic.dot_product.Goals as goal
 
-pub loop-x-preserved : goal.loop-x-preserved
-loop-x-preserved g c =
+pub loop-j-preserved : goal.loop-j-preserved
+loop-j-preserved g c =
     let f = (g.C.Code.meaning c.args.code.now).field in
-    let left = c.args.left.now in
-    let right = c.args.right.now in
-    let so_far = c.loop-x.yielded in
-    let item : Bor ℕ × Bor ℕ = (c.in-Some.x, c.in-Some.y) in
-    let t = zip_turn left right so_far c.into_iter-x-iterator.result c.loop-x.x-iterator c.next.new.self _ (cc) (cc) c.loop-x.yielded_by item c.in-Some.is c.next.ensures.steps in
+    let j = c.loop-j.j in
     record {
       element = c.mul_add-total.ensures.element;
-      so_far = cc (
-        c.mul_add-total.ensures.value,
-        dot_more (times f) left right (length so_far) _ c.loop-x.total c.in-Some.x.now c.in-Some.y.now c.loop-x.invariant.so_far (t.2 0) (t.3 0) (length_push so_far item),
-      );
+      so_far = λ a gives.
+          let next = dot_more (times f) a (λ k. get_or c.args.right.now k 0) j c.loop-j.total c.left.result _ (c.loop-j.invariant.so_far a gives) (gives j c.left.result (omega arith) c.left.ensures) refl in
+          cc (c.mul_add-total.ensures.value, next);
     }
+
+pub returns-clause-value : goal.returns-clause-value
+returns-clause-value g c a gives =
+    let f = (g.C.Code.meaning c.args.code.now).field in
+    let end : c.loop-j.j ≡ length c.args.right.now = omega arith in
+    subst (λ (n : ℕ). c.loop-j.total ≡ dot (times f) n a (λ k. get_or c.args.right.now k 0)) end (c.loop-j.invariant.so_far a gives)

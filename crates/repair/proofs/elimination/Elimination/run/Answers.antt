@@ -1,9 +1,8 @@
-use Rattle.std.proofs.Common.{◌≡◌, ℕ, ◌<◌, ◌+◌, List, Option, sym, ◌∙◌, subst, arith}
-use mathlib.Core.Path.{subst₂}
+use Rattle.std.proofs.Common.{◌≡◌, ℕ, ◌<◌, ◌+◌, Option, sym, ◌∙◌, subst, arith}
 use Rattle.fields.specs.Meaning.{size}
 use Rattle.erasures.specs.Agreement.{held}
 use Rattle.erasures.specs.Elimination.{Eliminated}
-use Rattle.repair.specs.declared.rows.Row.{Row}
+use Rattle.repair.specs.declared.elimination.Elimination.{Elimination}
 use Rattle.repair.specs.Rows.{syndrome_of, UnitRow, row_at, cell, sum_at, place_at, AllElements}
 use Rattle.repair.proofs.Stepping.{started, held_passed, lost_undetermined, lost_used}
 use Rattle.repair.proofs.elimination.Elimination.run.Goals as goal
@@ -13,13 +12,15 @@ pub loop-place-init : goal.loop-place-init
 loop-place-init g c =
     let code = c.args.code.now in
     let m = g.C.Code.meaning code in
-    let few = (g.C.Code.lawful code).few_checks in
+    let h = λ (p j : ℕ). m.entry j p in
+    let s = syndrome_of m (held m c.args.cells.now) in
+    let rows = c.start.new.rows in
     record {
-      eliminated = started m.field (g.C.Code.lawful code).field_laws m.checks (λ p j. m.entry j p) (syndrome_of m (held m c.args.cells.now)) (held m c.args.cells.now)
-          c.start-rows.result
-          (λ i l. subst (λ (x : ℕ). UnitRow i x (row_at c.start-rows.result i)) (c.requires.syndrome i l) (c.start-rows.ensures.rows i (omega arith)))
-          (λ i l. subst (λ (x : ℕ). x < size m.field) (c.requires.syndrome i l) (c.requires.elements i));
-      elements = c.start-rows.ensures.elements;
+      eliminated = subst (λ (o : Option ℕ). Eliminated m.field m.checks h s (held m c.args.cells.now) 0 (cell rows) (sum_at rows) (place_at rows) o) (sym c.requires.undetermined)
+          (started m.field (g.C.Code.lawful code).field_laws m.checks h s (held m c.args.cells.now) rows
+          (λ i l. subst (λ (x : ℕ). UnitRow i x (row_at rows i)) (c.requires.syndrome i l) (c.start.ensures.units i l))
+          (λ i l. subst (λ (x : ℕ). x < size m.field) (c.requires.syndrome i l) (c.requires.elements i)));
+      elements = c.start.ensures.elements;
     }
 
 pub loop-place-preserved : goal.loop-place-preserved
@@ -31,19 +32,19 @@ loop-place-preserved g c =
     let s = syndrome_of m (held m c.args.cells.now) in
     let state = held m c.args.cells.now in
     let place = c.loop-place.place in
-    let rows = c.loop-place.rows in
-    let undetermined = c.loop-place.undetermined in
+    let rows = c.loop-place.self.rows in
+    let undetermined = c.loop-place.self.undetermined in
     let E = c.loop-place.invariant.eliminated in
-    let Next = λ (xs : List Row) (o : Option ℕ). record {
-      eliminated : Eliminated m.field m.checks h s state (place + 1) (cell xs) (sum_at xs) (place_at xs) o;
-      elements : AllElements m.field xs;
+    let Next = λ (next : Elimination). record {
+      eliminated : Eliminated m.field m.checks h s state (place + 1) (cell next.rows) (sum_at next.rows) (place_at next.rows) next.undetermined;
+      elements : AllElements m.field next.rows;
     } in
     let symbol = c.symbol.result in
     let is = c.symbol.ensures in
     elim c.if-is_none.branch [
       | then-is_none+then-is_none-2 w ↦
           let used = w.use_row in
-          subst₂ Next (sym w.rows-is) (sym w.undetermined-is)
+          subst Next (sym w.self-is)
           (record {
             eliminated = lost_undetermined m.field L m.checks h s state place rows undetermined E used.new.rows symbol used.result is w.if-is_none.ensures w.if-is_none-2.ensures used.ensures.used;
             elements = used.ensures.elements;
@@ -52,13 +53,13 @@ loop-place-preserved g c =
           elim w.else-is_none.branch [
             | else-is_none-via-then-is_none+else-is_none-2 w' ↦
                 let used = w'.use_row in
-                subst₂ Next (sym (w.rows-is ∙ w'.rows-is)) (sym w.undetermined-is)
+                subst Next (sym (w.self-is ∙ w'.self-is))
                 (record {
                   eliminated = lost_used m.field L m.checks h s state place rows undetermined E used.new.rows symbol used.result is w'.if-is_none.ensures w'.if-is_none-2.ensures used.ensures.used;
                   elements = used.ensures.elements;
                 })
             | else-is_none-via-else-is_none w' ↦
-                subst₂ Next (sym (w.rows-is ∙ w'.rows-is)) (sym w.undetermined-is)
+                subst Next (sym (w.self-is ∙ w'.self-is))
                 (record {
                   eliminated = held_passed m.field L m.checks h s state place rows undetermined E symbol is w'.if-is_none.ensures;
                   elements = c.loop-place.invariant.elements;
@@ -66,11 +67,11 @@ loop-place-preserved g c =
           ]
     ]
 
-pub returns : goal.returns
-returns g c =
+pub returns-clause-eliminated : goal.returns-clause-eliminated
+returns-clause-eliminated g c =
     let m = g.C.Code.meaning c.args.code.now in
     let end : c.loop-place.place ≡ m.places = omega arith in
     subst
     (λ (n : ℕ). Eliminated m.field m.checks (λ p j. m.entry j p) (syndrome_of m (held m c.args.cells.now)) (held m c.args.cells.now) n
-    (cell c.loop-place.rows) (sum_at c.loop-place.rows) (place_at c.loop-place.rows) c.loop-place.undetermined)
+    (cell c.loop-place.self.rows) (sum_at c.loop-place.self.rows) (place_at c.loop-place.self.rows) c.loop-place.self.undetermined)
     end c.loop-place.invariant.eliminated

@@ -8,6 +8,6 @@ invariant-loop-place g l =
     let m = g.C.Code.meaning l.code in
     record {
       eliminated : Eliminated m.field m.checks (λ p j. m.entry j p) (syndrome_of m (held m l.cells)) (held m l.cells) l.place
-          (cell l.rows) (sum_at l.rows) (place_at l.rows) l.undetermined;
-      elements : AllElements m.field l.rows;
+          (cell l.self.rows) (sum_at l.self.rows) (place_at l.self.rows) l.self.undetermined;
+      elements : AllElements m.field l.self.rows;
     }

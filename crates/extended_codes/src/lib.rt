@@ -112,6 +112,7 @@ impl<B: Field> Code for FourTimes<B> {
         self.base.size() - 1
     }
 
+    #[inline]
     fn entry(&self, check: usize, place: usize) -> Result<u16, Fault> {
         let check = self.check(check)?;
         let place = self.place(place)?;
@@ -122,6 +123,7 @@ impl<B: Field> Code for FourTimes<B> {
         self.index(index)
     }
 
+    #[inline]
     fn generator(&self, index: usize, place: usize) -> Result<u16, Fault> {
         let index = self.index(index)?;
         let place = self.place(place)?;

@@ -99,8 +99,9 @@ impl<F: Field> Field for Pair<F> {
     ghost lawful = { λ p. pair_laws (F.meaning p.base) (F.lawful p.base) };
 
     fn width(&self) -> u8 {
+        // asked once: twice at each level would be 2 to the depth where pairs are nested
         let w = self.base.width();
-        if self.has_pairs() { w + w } else { w }
+        if w <= 4 { w + w } else { w }
     }
 
     fn c(&self) -> u16 {

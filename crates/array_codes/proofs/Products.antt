@@ -33,10 +33,10 @@ module _ (m : CodeMeaning) (K : CodeLaws m) where
   below_if true x n h = h
   below_if false x n h = absurd (omega arith)
 
-  row_index : (p : ℕ) → p < (array m).places → p / (w + 1) < m.places
+  pub row_index : (p : ℕ) → p < (array m).places → p / (w + 1) < m.places
   row_index p h = div_below p (w + 1) m.places (omega arith) (below_if (array_fits m) p (array_places m) h)
 
-  symbol_index : (i : ℕ) → i < (array m).dimension → i / w < m.dimension
+  pub symbol_index : (i : ℕ) → i < (array m).dimension → i / w < m.dimension
   symbol_index i h = div_below i w m.dimension some (below_if (array_fits m) i (array_dimension m) h)
 
   check_index : (t : ℕ) → t < (array m).checks → m.places ≤ t → (t - m.places) / w < m.checks

@@ -16,7 +16,7 @@ use Rattle.binary_fields.specs.Laws.{gf256_laws}
 abbrev times : ℕ → ℕ → ℕ
 times = gf256.product
 
-doubled_is : (x : ℕ) → x < 256 → times 2 x ≡ twice 8 0x11d x
+pub doubled_is : (x : ℕ) → x < 256 → times 2 x ≡ twice 8 0x11d x
 doubled_is = twice_is 8 0x11d 32 gf256_computed
 
 -- a product with no term of degree 8

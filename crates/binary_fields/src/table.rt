@@ -17,11 +17,16 @@ pub enum Table {
     Gf16,
 }
 
-/// What the two fields differ in.
+/// The numbers that the two fields differ in.
 #[derive(Clone, Copy)]
-struct Tables {
+struct Numbers {
     width: u8,
     c: u16,
+}
+
+/// The tables of a field.
+#[derive(Clone, Copy)]
+struct Tables {
     /// Of each element but 0 the power of 2 that it is.
     logs: &'static [u8],
     /// The powers of 2 for two full turns, so that the sum of two logarithms is an index.
@@ -45,21 +50,26 @@ const POWERS16: [u16; 30] = [
 
 impl Table {
     /// The numbers of the field.
-    fn tables(self) -> Tables
+    fn numbers(self) -> Numbers
         ensures width { result.width ≡ (table_meaning self).width }
         ensures c { result.c ≡ (table_meaning self).c }
-        ensures logs { IsLogTables (table_meaning self) result.logs.now result.powers.now }
+    {
+        match self {
+            Table::Gf8 => Numbers { width: 3, c: 1 },
+            Table::Gf16 => Numbers { width: 4, c: 8 },
+        }
+    }
+
+    /// The tables of the field.
+    fn tables(self) -> Tables
+        ensures { IsLogTables (table_meaning self) result.logs.now result.powers.now }
     {
         match self {
             Table::Gf8 => Tables {
-                width: 3,
-                c: 1,
                 logs: &LOGS8,
                 powers: &POWERS8,
             },
             Table::Gf16 => Tables {
-                width: 4,
-                c: 8,
                 logs: &LOGS16,
                 powers: &POWERS16,
             },
@@ -76,7 +86,7 @@ impl Table {
         if x == 0 || y == 0 {
             return 0;
         }
-        let Tables { logs, powers, .. } = self.tables();
+        let Tables { logs, powers } = self.tables();
         powers[usize::from(logs[usize::from(x)]) + usize::from(logs[usize::from(y)])]
     }
 
@@ -87,7 +97,7 @@ impl Table {
         requires nonzero { x ≢ 0 }
         ensures { result ≡ inverse (table_meaning self) x }
     {
-        let Tables { logs, powers, .. } = self.tables();
+        let Tables { logs, powers } = self.tables();
         powers[logs.len() - 1 - usize::from(logs[usize::from(x)])]
     }
 }
@@ -98,11 +108,11 @@ impl Field for Table {
     ghost lawful = { λ f. table_laws f };
 
     fn width(&self) -> u8 {
-        self.tables().width
+        self.numbers().width
     }
 
     fn c(&self) -> u16 {
-        self.tables().c
+        self.numbers().c
     }
 
     fn product(&self, x: u16, y: u16) -> Result<u16, Fault> {

@@ -7,7 +7,7 @@ ghost use Rattle.repair.specs.Rows.{syndrome_of, row_at, cell, sum_at, place_at,
 
 use super::arithmetic::{entry, inverse, tabulate};
 use super::cells::symbol;
-use super::rows::{EMPTY, Row};
+use super::rows::Row;
 use codes::Code;
 
 /// The entries of the checks at a place.
@@ -119,13 +119,13 @@ pub(crate) struct Elimination {
 }
 
 impl Elimination {
-    /// No rows yet, and no place gone through.
+    /// Rows of zeros, and no place gone through.
     pub(crate) fn new() -> Elimination
         ensures elements { (f : FieldMeaning) → AllElements f result.rows }
         ensures undetermined { result.undetermined ≡ None }
     {
         Elimination {
-            rows: [EMPTY; 96],
+            rows: [Row::EMPTY; 96],
             undetermined: None,
         }
     }

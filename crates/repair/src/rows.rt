@@ -18,14 +18,14 @@ pub(crate) struct Row {
     pub(crate) place: Option<usize>,
 }
 
-/// A row of zeros, assigned to no place.
-pub(crate) const EMPTY: Row = Row {
-    combination: [0; 96],
-    sum: 0,
-    place: None,
-};
-
 impl Row {
+    /// A row of zeros, assigned to no place.
+    pub(crate) const EMPTY: Row = Row {
+        combination: [0; 96],
+        sum: 0,
+        place: None,
+    };
+
     /// One check alone, assigned to no place.
     pub(crate) fn unit(check: usize, sum: u16) -> Row
         requires { check < 96 }

@@ -21,7 +21,7 @@ fn entries_at<C: Code>(code: &C, count: usize, place: usize) -> [u16; 96]
 }
 
 /// Writes the checks themselves, with what each sums to.
-fn start<C: Code>(code: &C, count: usize, syndrome: &[u16; 96], rows: &mut [Row; 96])
+fn start<C: Code>(code: &C, rows: &mut [Row; 96], count: usize, syndrome: &[u16; 96])
     requires count { count ≡ (C.meaning code.now).checks }
     requires syndrome { Elements (C.meaning code.now).field syndrome.now }
     requires elements { AllElements (C.meaning code.now).field rows.old }
@@ -140,7 +140,7 @@ impl Elimination {
         ensures elements { AllElements (C.meaning code.now).field self.new.rows }
     {
         let count = code.checks();
-        start(code, count, syndrome, &mut self.rows);
+        start(code, &mut self.rows, count, syndrome);
         for place in 0..code.places() {
             if symbol(code, cells, place).is_none()
                 && use_row(code, &mut self.rows, count, place).is_none()
